@@ -1,0 +1,7 @@
+-- The proofs of the claims, and the laws that other crates' proofs cite.
+pub mod Addresses
+pub mod Frames
+pub mod Answers
+pub mod Sealed
+pub mod Damage
+pub mod Claims

@@ -1,0 +1,43 @@
+-- What each call answers and leaves, on every input (paper 01, "Reply numbers" and "Sectors"). Assumes nothing.
+use mathlib.Core.Bool.{Bool, false}
+use mathlib.Core.List.{List}
+use Prim.Native.Nat.{ℕ}
+use lib.Dec.{eqb}
+use lib.ListN.{length}
+use Rattle.laws.specs.Choice.{if_then_else_}
+use Rattle.scramble.specs.Scramble.{scrambled}
+use Rattle.sector.specs.declared.Address.{Address}
+use Rattle.sector.specs.declared.Reply.{Reply}
+use Rattle.sector.specs.declared.Judged.{Judged}
+use Rattle.sector.specs.Address.{valid}
+use Rattle.sector.specs.Sector.{sealed}
+use Rattle.sector.specs.Judge.{judgement}
+
+-- a sector has 2,352 bytes
+abbrev pub whole : List ℕ → Bool
+whole s = eqb (length s) 2352
+
+abbrev pub answer : ℕ → Reply
+answer n = record { number = n; result = 0 }
+
+-- 1 for a wrong length, 3 for a bad address, the lowest where both apply
+unfoldable pub seal-reply : List ℕ → Address → Reply
+seal-reply s a = if whole s then (if valid a then answer 0 else answer 3) else answer 1
+
+-- a refusal changes no byte
+unfoldable pub seal-sector : List ℕ → Address → List ℕ
+seal-sector s a = if whole s then (if valid a then sealed a s else s) else s
+
+unfoldable pub open-reply : List ℕ → Reply
+open-reply s = if whole s then answer 0 else answer 1
+
+-- descrambling is scrambling again
+unfoldable pub open-sector : List ℕ → List ℕ
+open-sector s = if whole s then scrambled s else s
+
+-- a refusal sets neither bit
+abbrev pub refused : ℕ → Judged
+refused n = record { number = n; judgement = record { staerr = false; hcei = false } }
+
+unfoldable pub judge-answer : List ℕ → Address → Judged
+judge-answer s a = if whole s then (if valid a then record { number = 0; judgement = judgement a s } else refused 3) else refused 1

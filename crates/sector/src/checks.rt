@@ -1,0 +1,71 @@
+// The tests that a sector is judged by.
+ghost use mathlib.Core.Path.{_≡_};
+ghost use mathlib.Core.Bool.{true};
+ghost use lib.ListN.{length};
+ghost use Rattle.laws.specs.Same.{same};
+ghost use Rattle.sector.specs.Address.{valid};
+ghost use Rattle.sector.specs.Judge.{sync-holds, mode-holds, edc-holds, address-holds, staerr};
+use super::Address;
+use super::frame;
+use super::header;
+
+// Two slices hold the same bytes.
+fn equal(a: &[u8], b: &[u8]) -> bool
+    requires { ⌜ length (now a) ≡ length (now b) ⌝ }
+    ensures { λ r. ⌜ r ≡ same (now (a .entry)) (now (b .entry)) ⌝ }
+{
+    let mut i: usize = 0;
+    while i < a.len() {
+        if a[i] != b[i] {
+            return false;
+        }
+        i += 1;
+    }
+    true
+}
+
+fn sync_holds(sector: &[u8]) -> bool
+    requires { ⌜ length (now sector) ≡ 2352 ⌝ }
+    ensures { λ r. ⌜ r ≡ sync-holds (now (sector .entry)) ⌝ }
+{
+    let sync = [0, 255, 255, 255, 255, 255, 255, 255, 255, 255, 255, 0];
+    equal(&sector[..12], &sync)
+}
+
+fn mode_holds(sector: &[u8]) -> bool
+    requires { ⌜ length (now sector) ≡ 2352 ⌝ }
+    ensures { λ r. ⌜ r ≡ mode-holds (now (sector .entry)) ⌝ }
+{
+    sector[15] == 1
+}
+
+fn edc_holds(sector: &[u8]) -> bool
+    requires { ⌜ length (now sector) ≡ 2352 ⌝ }
+    ensures { λ r. ⌜ r ≡ edc-holds (now (sector .entry)) ⌝ }
+{
+    let code = frame::code_bytes(edc::edc(&sector[..2064]));
+    equal(&sector[2064..2068], &code)
+}
+
+pub fn address_holds(sector: &[u8], address: Address) -> bool
+    requires { ⌜ length (now sector) ≡ 2352 ⌝ }
+    requires { ⌜ valid address ≡ true ⌝ }
+    ensures { λ r. ⌜ r ≡ address-holds address (now (sector .entry)) ⌝ }
+{
+    let expected = header::bytes_of(address);
+    equal(&sector[12..15], &expected)
+}
+
+// The cheap tests first.
+pub fn staerr(sector: &[u8]) -> bool
+    requires { ⌜ length (now sector) ≡ 2352 ⌝ }
+    ensures { λ r. ⌜ r ≡ staerr (now (sector .entry)) ⌝ }
+{
+    if !sync_holds(sector) {
+        return true;
+    }
+    if !mode_holds(sector) {
+        return true;
+    }
+    !edc_holds(sector)
+}

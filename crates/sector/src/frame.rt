@@ -1,0 +1,66 @@
+// What sealing writes into a sector before it is scrambled.
+ghost use mathlib.Core.Path.{_≡_};
+ghost use mathlib.Core.Bool.{true};
+ghost use lib.ListN.{length};
+ghost use Rattle.sector.specs.Address.{valid};
+ghost use Rattle.sector.specs.Sector.{head, tail, low4, framed};
+use super::Address;
+use super::header;
+
+// Bytes 0 to 15: sync, address and mode.
+fn head_of(address: Address) -> [u8; 16]
+    requires { ⌜ valid address ≡ true ⌝ }
+    ensures { λ r. ⌜ r ≡ head address ⌝ }
+{
+    let a = header::bytes_of(address);
+    [
+        0,
+        255,
+        255,
+        255,
+        255,
+        255,
+        255,
+        255,
+        255,
+        255,
+        255,
+        0,
+        a[0],
+        a[1],
+        a[2],
+        1,
+    ]
+}
+
+// The code's four bytes, the lowest first.
+pub fn code_bytes(code: u32) -> [u8; 4]
+    ensures { λ r. ⌜ r ≡ low4 code ⌝ }
+{
+    [
+        (code % 256) as u8,
+        ((code >> 8) % 256) as u8,
+        ((code >> 16) % 256) as u8,
+        ((code >> 24) % 256) as u8,
+    ]
+}
+
+// Bytes 2,064 to 2,075: the code and eight zeros.
+fn tail_of(code: u32) -> [u8; 12]
+    ensures { λ r. ⌜ r ≡ tail code ⌝ }
+{
+    let b = code_bytes(code);
+    [b[0], b[1], b[2], b[3], 0, 0, 0, 0, 0, 0, 0, 0]
+}
+
+// Writes both around the user bytes; the code covers the header, which is written first.
+pub fn put(sector: &mut [u8], address: Address)
+    requires { ⌜ length (now sector) ≡ 2352 ⌝ }
+    requires { ⌜ valid address ≡ true ⌝ }
+    ensures { λ _. ⌜ now (sector .exit) ≡ framed address (now (sector .entry)) ⌝ }
+{
+    let head = head_of(address);
+    bytes::copy(&head, sector);
+    let tail = tail_of(edc::edc(&sector[..2064]));
+    bytes::copy(&tail, &mut sector[2064..]);
+}

@@ -1,0 +1,111 @@
+// Sectors of mode 1 (ECMA-130, clause 14; paper 01, "Sectors"): sealing user data at an address, opening a sector, and judging an
+// opened one. The calls are total: each answers every input with a reply number of paper 01's table, and a refusal changes no byte.
+ghost use mathlib.Core.Path.{_≡_};
+ghost use Rattle.sector.specs.Calls.{seal-reply, seal-sector, open-reply, open-sector, refused, judge-answer};
+
+mod checks;
+mod frame;
+mod header;
+
+// The bytes of a sector.
+const LENGTH: usize = 2352;
+
+// A sector's place on the disc.
+pub struct Address {
+    pub minute: u16,
+    pub second: u16,
+    pub frame: u16,
+}
+
+// A number of paper 01's reply table, and a result, which is 0 here.
+pub struct Reply {
+    pub number: u8,
+    pub result: u16,
+}
+
+// STAERR: sync, mode or EDC fails. HCEI: the header is not the expected address.
+pub struct Judgement {
+    pub staerr: bool,
+    pub hcei: bool,
+}
+
+// The reply to a judging: a number as in `Reply`, and the two bits.
+pub struct Judged {
+    pub number: u8,
+    pub judgement: Judgement,
+}
+
+// Seals a buffer at an address where it lies: bytes 0 to 15, the EDC and the zeros after it are written, then all is scrambled.
+// Ruled out: one that writes and then refuses the address, and one that takes the EDC before the header is written.
+pub fn seal(sector: &mut [u8], address: Address) -> Reply
+    ensures { λ r. ⌜ (r ≡ seal-reply (now (sector .entry)) address) × (now (sector .exit) ≡ seal-sector (now (sector .entry)) address) ⌝ }
+{
+    if sector.len() != LENGTH {
+        return Reply {
+            number: 1,
+            result: 0,
+        };
+    }
+    if !address.valid() {
+        return Reply {
+            number: 3,
+            result: 0,
+        };
+    }
+    frame::put(sector, address);
+    scramble::scramble(sector);
+    Reply {
+        number: 0,
+        result: 0,
+    }
+}
+
+// Descrambles a sector where it lies.
+// Ruled out: one that takes a shorter sector, and one that descrambles the sync bytes too.
+pub fn open(sector: &mut [u8]) -> Reply
+    ensures { λ r. ⌜ (r ≡ open-reply (now (sector .entry))) × (now (sector .exit) ≡ open-sector (now (sector .entry))) ⌝ }
+{
+    if sector.len() != LENGTH {
+        return Reply {
+            number: 1,
+            result: 0,
+        };
+    }
+    scramble::scramble(sector);
+    Reply {
+        number: 0,
+        result: 0,
+    }
+}
+
+// A judging that is refused sets neither bit.
+fn refused(number: u8) -> Judged
+    ensures { λ r. ⌜ r ≡ refused number ⌝ }
+{
+    Judged {
+        number,
+        judgement: Judgement {
+            staerr: false,
+            hcei: false,
+        },
+    }
+}
+
+// Judges an opened sector against the address that is expected of it.
+// Ruled out: one that never sets STAERR, and one that sets HCEI for a wrong mode.
+pub fn judge(sector: &[u8], address: Address) -> Judged
+    ensures { λ r. ⌜ r ≡ judge-answer (now (sector .entry)) address ⌝ }
+{
+    if sector.len() != LENGTH {
+        return refused(1);
+    }
+    if !address.valid() {
+        return refused(3);
+    }
+    let staerr = checks::staerr(sector);
+    let hcei = !checks::address_holds(sector, address);
+    Judged {
+        number: 0,
+        judgement: Judgement { staerr, hcei },
+    }
+}

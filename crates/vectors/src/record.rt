@@ -1,0 +1,64 @@
+// One record of mode 1. Its parts: the absolute frame from byte 8, the EDC from 20, the user bytes from 24, the plain sector from
+// 2,348 (what the EDC covers ends at 4,412, the parity begins at 4,424), and the scrambled sector from 4,700 to its end, 7,052.
+ghost use mathlib.Core.Path.{_≡_};
+ghost use lib.ListN.{length};
+use super::calls;
+use super::damage;
+use super::fields;
+use super::tally;
+use super::tally::Tally;
+use sector::Address;
+
+// 75 frames are a second. The file gives the address in BCD too, which sealing has to find by itself.
+fn address_of(frames: u32) -> Address {
+    Address {
+        minute: (frames / 4500 % 100) as u16,
+        second: (frames / 75 % 60) as u16,
+        frame: (frames % 75) as u16,
+    }
+}
+
+// The beginning of a line.
+fn heading(number: u32, address: Address) {
+    tally::text(b"record ");
+    tally::number(number);
+    tally::text(b" ");
+    tally::two(address.minute);
+    tally::text(b":");
+    tally::two(address.second);
+    tally::text(b":");
+    tally::two(address.frame);
+}
+
+// What the record holds, against the calls. 99:59:74 is the last of 450,000 addresses, and the first follows it.
+fn compare(bytes: &[u8], frames: u32, t: Tally) -> Tally
+    requires { ⌜ length (now bytes) ≡ 7052 ⌝ }
+{
+    let address = address_of(frames);
+    let next = address_of(frames % 450000 + 1);
+    let plain = &bytes[2348..4700];
+    let scrambled = &bytes[4700..];
+    let code = edc::edc(&bytes[2348..4412]);
+    let sealed = calls::seals(&bytes[24..2072], &bytes[4424..4700], address, scrambled);
+    let a = t.check(b" edc", code == fields::word(&bytes[20..24]));
+    let b = a.check(b" sealed", sealed);
+    let c = b.check(b" opened", calls::opens(scrambled, plain));
+    let d = c.check(b" judged", calls::judges(plain, address, false, false));
+    d.check(b" next", calls::judges(plain, next, false, true))
+}
+
+// The two lines of the record `number` of the file.
+pub(crate) fn checks(number: u32, bytes: &[u8], t: Tally) -> Tally
+    requires { ⌜ length (now bytes) ≡ 7052 ⌝ }
+{
+    let frames = fields::word(&bytes[8..12]);
+    let address = address_of(frames);
+    heading(number, address);
+    let u = compare(bytes, frames, t);
+    tally::text(b"\n");
+    heading(number, address);
+    tally::text(b" damaged");
+    let v = damage::checks(&bytes[2348..4700], address, u);
+    tally::text(b"\n");
+    v
+}

@@ -1,0 +1,83 @@
+// What the calls refuse: a length other than 2,352 by reply 1, an address out of range by reply 3, and no byte changed.
+use super::tally;
+use super::tally::Tally;
+use sector::Address;
+use sector::Judged;
+use sector::Reply;
+
+const START: Address = Address {
+    minute: 0,
+    second: 2,
+    frame: 0,
+};
+
+fn is_refusal(r: Reply, number: u8) -> bool {
+    r.number == number && r.result == 0
+}
+
+fn is_refused(j: Judged, number: u8) -> bool {
+    let bits = j.judgement;
+    j.number == number && !bits.staerr && !bits.hcei
+}
+
+// Sealing and judging at `address` answer `number`, and the buffer stays.
+fn refused_by(sector: &mut [u8], before: &[u8], address: Address, number: u8) -> bool {
+    let sealed = is_refusal(sector::seal(sector, address), number);
+    let judged = is_refused(sector::judge(sector, address), number);
+    sealed && judged && check::same(sector, before)
+}
+
+// Every call refuses this length, and before the address.
+fn is_refused_length(sector: &mut [u8], before: &[u8]) -> bool {
+    let bad = Address {
+        minute: 100,
+        second: 0,
+        frame: 0,
+    };
+    let opened = is_refusal(sector::open(sector), 1);
+    let good = refused_by(sector, before, START, 1);
+    opened && good && refused_by(sector, before, bad, 1)
+}
+
+fn wrong_length(length: usize) -> bool {
+    if length > 2353 {
+        return false;
+    }
+    let before = [0x5au8; 2353];
+    let mut space = [0x5au8; 2353];
+    is_refused_length(&mut space[0..length], &before[0..length])
+}
+
+fn bad_address(sector: &mut [u8], before: &[u8], minute: u16, second: u16, frame: u16) -> bool {
+    let address = Address {
+        minute,
+        second,
+        frame,
+    };
+    refused_by(sector, before, address, 3)
+}
+
+fn lengths(t: Tally) -> Tally {
+    let a = t.check(b" length 0", wrong_length(0));
+    let b = a.check(b" length 2351", wrong_length(2351));
+    b.check(b" length 2353", wrong_length(2353))
+}
+
+fn addresses(t: Tally) -> Tally {
+    let before = [0x5au8; 2352];
+    let mut space = [0x5au8; 2352];
+    let sector: &mut [u8] = &mut space;
+    let minute = bad_address(sector, &before, 100, 0, 0);
+    let second = bad_address(sector, &before, 0, 60, 0);
+    let frame = bad_address(sector, &before, 0, 0, 75);
+    t.check(b" minute 100", minute)
+        .check(b" second 60", second)
+        .check(b" frame 75", frame)
+}
+
+pub(crate) fn checks(t: Tally) -> Tally {
+    tally::text(b"refused");
+    let u = addresses(lengths(t));
+    tally::text(b"\n");
+    u
+}

@@ -14,6 +14,11 @@ if-true b x y h = simp h
 pub if-false : {A : Type 0} (b : Bool) (x y : A) → b ≡ false → (if b then x else y) ≡ y
 if-false b x y h = simp h
 
+-- a function of a choice is the choice of its values
+pub ap-if : {A B : Type 0} (f : A → B) (b : Bool) (x y : A) → f (if b then x else y) ≡ (if b then f x else f y)
+ap-if f true x y = refl
+ap-if f false x y = refl
+
 pub both-true : (a b : Bool) → a ≡ true → b ≡ true → (a && b) ≡ true
 both-true a b p q = simp (p, q)
 

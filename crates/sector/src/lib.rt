@@ -17,7 +17,7 @@ pub struct Address {
     pub frame: u16,
 }
 
-// A number of paper 01's reply table, and a result, which is 0 here.
+// A number of paper 01's reply table, and a result; sealing and opening have none and give 0.
 pub struct Reply {
     pub number: u8,
     pub result: u16,

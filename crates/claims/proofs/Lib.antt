@@ -1,0 +1,24 @@
+-- Demand 3 of the chip (Demand3), three wrong machines that demand 3 shuts out (WrongWord, WrongRestart, WrongAbort), runs that show demand 3 to be no empty claim (MetRuns), what the chip counts (Counted), consequences for the letter (Letter), and the bench cases (Cases, CasesMet).
+pub mod Follows
+pub mod Writes
+pub mod Named
+pub mod Host
+pub mod Holds
+pub mod Word
+pub mod Sector
+pub mod Steps
+pub mod Words
+pub mod Alike
+pub mod Twins
+pub mod Sizes
+pub mod Demand3
+pub mod Stages
+pub mod Runs
+pub mod WrongWord
+pub mod WrongRestart
+pub mod WrongAbort
+pub mod Cases
+pub mod CasesMet
+pub mod MetRuns
+pub mod Counted
+pub mod Letter

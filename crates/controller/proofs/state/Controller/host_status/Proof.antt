@@ -1,0 +1,19 @@
+-- The byte is that of the status as it was read.
+use mathlib.Core.Path.{_∙_, ap}
+use Rattle.controller.specs.Step.{replied}
+use Rattle.controller.specs.declared.step.Event.the-variants.{Stay}
+use borrow.Author.Needs.{needs}
+use Rattle.controller.proofs.state.Controller.host_status.Statement.{statement}
+use Rattle.controller.proofs.state.Controller.host_status.Tie as tie
+
+atsta-byte-requires : tie.Need-atsta-byte-requires
+atsta-byte-requires c κs = search needs
+
+replied-requires : tie.Need-replied-requires
+replied-requires c κs = search needs
+
+returns : tie.Need-returns
+returns c = c .replied .ensures ∙ ap (replied _ Stay) (c .before .atsta-byte .ensures)
+
+pub host-status-spec : {M : Type 1} → statement M
+host-status-spec = tie.close (tie.spec atsta-byte-requires replied-requires returns)

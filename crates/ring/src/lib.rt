@@ -1,0 +1,97 @@
+// The ring's place: the number of blocks, the transfer block, the next block to fill and the last decoded one
+// (paper 01, "The ring"). Only here is anything taken modulo the number of blocks.
+mod memory;
+
+use controller::Event;
+pub use memory::store;
+pub use memory::word_of;
+pub use memory::words_of;
+ghost use mathlib.Core.Path.{_≡_};
+ghost use Prim.Native.Nat.{_+_, _%_, _<_};
+ghost use Rattle.ring.specs.Place.{opened, place-sound, full, place-step, PlaceSound};
+
+pub struct Place {
+    pub n: u16,
+    pub t: u16,
+    pub b: u16,
+    pub last: u16,
+}
+
+// k blocks after block t
+fn after(t: u16, k: u16, n: u16) -> u16
+    requires { ⌜ 0 < n ⌝ }
+    ensures { λ r. ⌜ r ≡ (t + k) % n ⌝ }
+{
+    ((t as u32 + k as u32) % (n as u32)) as u16
+}
+
+impl Place {
+    pub fn opened(n: u16) -> Place
+        ensures { λ r. ⌜ r ≡ opened n ⌝ }
+    {
+        Place {
+            n: n,
+            t: 0,
+            b: 0,
+            last: 0,
+        }
+    }
+
+    pub fn sound(self) -> bool
+        ensures { λ r. ⌜ r ≡ place-sound self ⌝ }
+    {
+        (3 <= self.n)
+            & (self.n <= 255)
+            & (self.t < self.n)
+            & (self.b < self.n)
+            & (self.last < self.n)
+    }
+
+    // The ring's own stop.
+    pub fn full(self) -> bool
+        requires { ⌜ PlaceSound self ⌝ }
+        ensures { λ r. ⌜ r ≡ full self ⌝ }
+    {
+        (self.b + 1) % self.n == self.t
+    }
+
+    pub fn step(mut self, event: Event) -> Place
+        requires { ⌜ PlaceSound self ⌝ }
+        ensures { λ r. ⌜ r ≡ place-step self event ⌝ }
+    {
+        let n = self.n;
+        let t = self.t;
+        let b = self.b;
+        match event {
+            Event::Stay => self,
+            Event::Store => Place {
+                n: n,
+                t: t,
+                b: (b + 1) % n,
+                last: b,
+            },
+            Event::Advance(k) => {
+                let next = after(t, k, n);
+                self.t = next;
+                self
+            }
+            Event::Rewind(k) => {
+                let next = after(t, k, n);
+                self.b = next;
+                self
+            }
+            Event::Move(k) => Place {
+                n: n,
+                t: k,
+                b: k,
+                last: self.last,
+            },
+            Event::Clear => Place {
+                n: n,
+                t: 0,
+                b: 0,
+                last: 0,
+            },
+        }
+    }
+}

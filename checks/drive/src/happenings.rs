@@ -1,0 +1,180 @@
+//! Counts what a script really made happen, so that a comparison that never
+//! got as far as a transfer is not taken for a thorough one.
+
+use ecma130::Address;
+use model::{Call, Chip, MAX_LINE_BYTES};
+use std::collections::BTreeMap;
+
+/// A line, the call it names, its answer, and the chip around it.
+pub struct Step<'a> {
+    pub line: &'a [u8],
+    pub call: Option<Call>,
+    pub answer: u16,
+    pub out: u16,
+    pub before: Option<Chip>,
+    pub after: Option<Chip>,
+}
+
+#[derive(Default)]
+pub struct Happenings {
+    counts: BTreeMap<&'static str, u64>,
+    answers: BTreeMap<(&'static str, u16), u64>,
+}
+
+impl Happenings {
+    fn count_if(&mut self, happened: bool, what: &'static str) {
+        *self.counts.entry(what).or_default() += happened as u64;
+    }
+
+    pub fn note(&mut self, step: &Step) {
+        let name = step.call.map_or("malformed", |call| call.name());
+        *self.answers.entry((name, step.answer)).or_default() += 1;
+        self.note_line(step);
+        let (Some(call), Some(before), Some(after)) = (step.call, step.before, step.after) else {
+            return;
+        };
+        if matches!(call, Call::Open { .. }) {
+            return;
+        }
+        self.note_write(call, step.answer, &before);
+        self.note_start(call, step.answer, &before, &after);
+        self.note_look(call, step.out, &before);
+        if step.answer == 0 {
+            self.note_sector(call, step.out, &before, &after);
+            self.note_word(call, &before);
+            self.note_packet(call, &before, &after);
+            self.note_abort(call, &before);
+            self.count_if(after.t < before.t && after.tcc < before.tcc, "T goes around the ring");
+        }
+        self.note_refused_sector(call, step.answer, &before);
+    }
+
+    fn note_line(&mut self, step: &Step) {
+        let well_formed = step.call.is_some();
+        let opening = matches!(step.call, Some(Call::Open { .. }));
+        self.count_if(!well_formed, "malformed line");
+        self.count_if(step.line.len() > MAX_LINE_BYTES, "line over 80 bytes");
+        self.count_if(well_formed && step.line.len() == MAX_LINE_BYTES, "well-formed line of 80 bytes");
+        self.count_if(opening && step.answer == 0, "open accepted");
+        self.count_if(opening && step.answer != 0, "open refused");
+        let early = well_formed && !opening && step.before.is_none();
+        self.count_if(early, "call before any open");
+    }
+
+    fn note_write(&mut self, call: Call, answer: u16, before: &Chip) {
+        let Call::Write { reg, value } = call else {
+            return;
+        };
+        let done = answer == 0;
+        let blocks = value as usize;
+        self.count_if(done && reg == 0x0A && value == 0 && before.held, "restart after a bad sector");
+        self.count_if(done && reg == 0x0A && value == 0 && before.transfer.is_some(), "DECEN low in a transfer");
+        self.count_if(done && reg == 0x9D && blocks < before.tcc, "withdrawal of blocks");
+        self.count_if(answer == 6 && reg == 0x9D, "withdrawal refused (6)");
+        self.count_if(done && reg == 0x9E && before.acmen && blocks > 0, "skip of blocks");
+        self.count_if(answer == 6 && reg == 0x9E, "skip refused (6)");
+        self.count_if(done && reg == 0x17 && value == 0x01, "completion by firmware");
+        self.count_if(answer == 5 && reg == 0x17, "start refused (5)");
+        self.count_if(answer == 6 && reg == 0x17, "start refused (6)");
+        self.count_if(answer == 4, "write barred (4)");
+    }
+
+    fn note_start(&mut self, call: Call, answer: u16, before: &Chip, after: &Chip) {
+        let ended = answer == 0 && matches!(call, Call::Word) && is_last_word(before);
+        if after.transfer.is_none() || before.transfer.is_some() && !ended {
+            return;
+        }
+        let by_firmware = call == Call::Write { reg: 0x17, value: 0x04 };
+        self.count_if(by_firmware, "start by firmware");
+        self.count_if(!by_firmware, "start by itself");
+        self.count_if(ended, "start by itself at the last word");
+        self.count_if(matches!(call, Call::Send { .. }), "start by itself at the sixth packet word");
+        self.count_if(matches!(call, Call::Sector { .. }), "start by itself at a sector");
+        self.count_if(matches!(call, Call::Command { .. }), "start by itself at a command");
+        self.count_if(after.mbc > 0, "start of several blocks");
+        self.count_if(after.stwcen, "start with byte count (STWCEN)");
+        let limit = if after.atlim == 0 { 32 } else { after.atlim };
+        self.count_if(after.ttc > limit && after.tcc > limit, "start cut by ATLIM");
+    }
+
+    fn note_word(&mut self, call: Call, before: &Chip) {
+        let word = matches!(call, Call::Word);
+        let last = word && is_last_word(before);
+        self.count_if(word, "word handed over");
+        self.count_if(word && before.window.offset % 2 == 1, "word handed over from an odd offset");
+        self.count_if(last && before.window.words >= 1024, "transfer of 1,024 words a block or more ended");
+        self.count_if(last, "transfer ended");
+        self.count_if(last && before.mbc > 0, "transfer of several blocks ended");
+        self.count_if(last && before.ascen, "transfer ended with completion");
+        self.count_if(last && before.ascen && before.autoen, "packet reception armed again by AUTOEN");
+    }
+
+    fn note_sector(&mut self, call: Call, out: u16, before: &Chip, after: &Chip) {
+        if !matches!(call, Call::Sector { .. }) {
+            return;
+        }
+        self.count_if(out == 0, "good sector");
+        self.count_if(out != 0, "bad sector");
+        self.count_if(before.transfer.is_some(), "sector taken in a transfer");
+        self.count_if(out == 0 && after.expected == Address::new(0, 0, 0), "address past 99:59:74");
+    }
+
+    fn note_refused_sector(&mut self, call: Call, answer: u16, before: &Chip) {
+        if !matches!(call, Call::Sector { .. }) {
+            return;
+        }
+        self.count_if(answer == 7, "sector refused, DECEN low (7)");
+        self.count_if(answer == 8, "sector refused, held (8)");
+        self.count_if(answer == 9 && !before.blims, "sector refused, ring full (9)");
+        self.count_if(answer == 9 && before.blims, "sector refused, BUFLIM (9)");
+    }
+
+    fn note_packet(&mut self, call: Call, before: &Chip, after: &Chip) {
+        let command = matches!(call, Call::Command { .. });
+        let full = matches!(call, Call::Send { .. }) && after.reception.is_none();
+        let unarmed = call == Call::Command { code: 0xA0 } && !before.apkten;
+        self.count_if(command && after.reception.is_some(), "packet command received");
+        self.count_if(unarmed, "packet command without APKTEN");
+        self.count_if(command && after.reception.is_none(), "other command received");
+        self.count_if(full, "packet full");
+        self.count_if(full && before.ascen, "packet full with completion");
+        self.count_if(full && !before.adcen, "packet full with ADCEN low");
+        self.count_if(matches!(call, Call::Packet { .. }), "packet byte read");
+    }
+
+    fn note_abort(&mut self, call: Call, before: &Chip) {
+        if !matches!(call, Call::Srst) {
+            return;
+        }
+        let inside = before.transfer.is_some_and(|transfer| transfer.place > 0);
+        self.count_if(before.transfer.is_some(), "abort of a transfer");
+        self.count_if(inside, "abort within a block");
+        self.count_if(before.reception.is_some(), "abort of a reception");
+    }
+
+    fn note_look(&mut self, call: Call, out: u16, before: &Chip) {
+        if !matches!(call, Call::Look) {
+            return;
+        }
+        let half_read = before.transfer.is_some_and(|transfer| transfer.place > 0);
+        self.count_if(out > 0, "look with bytes");
+        self.count_if(out == 0, "look without bytes");
+        self.count_if(half_read, "look at a half-read block");
+    }
+
+    pub fn report(&self) -> String {
+        let mut text = String::new();
+        for (what, count) in &self.counts {
+            text += &format!("{count:>9}  {what}\n");
+        }
+        text += "answers:\n";
+        for ((name, answer), count) in &self.answers {
+            text += &format!("{count:>9}  {name} answered {answer}\n");
+        }
+        text
+    }
+}
+
+fn is_last_word(chip: &Chip) -> bool {
+    chip.transfer.is_some_and(|transfer| transfer.blocks_left == 1 && transfer.place + 1 == chip.window.words)
+}

@@ -1,0 +1,180 @@
+//! Sealing, opening and judging a sector of 2,352 bytes.
+
+use crate::{edc_sliced, scramble, Address, Refusal};
+
+pub const SECTOR_BYTES: usize = 2352;
+pub const USER_START: usize = 16;
+pub const USER_BYTES: usize = 2048;
+pub const EDC_START: usize = 2064;
+pub const SYNC: [u8; 12] = [0, 255, 255, 255, 255, 255, 255, 255, 255, 255, 255, 0];
+
+const HEADER_START: usize = 12;
+const MODE_PLACE: usize = 15;
+const ZEROS_START: usize = 2068;
+const PARITY_START: usize = 2076;
+
+/// What judging found; both low is a good sector.
+#[derive(Clone, Copy, Debug, Default, PartialEq, Eq)]
+pub struct Verdict {
+    /// Sync, mode or EDC is wrong.
+    pub staerr: bool,
+    /// The header's address is not the expected one.
+    pub hcei: bool,
+}
+
+impl Verdict {
+    /// The bits as register 80h shows them.
+    pub fn bits(self) -> u8 {
+        (self.staerr as u8) << 6 | self.hcei as u8
+    }
+
+    pub fn is_good(self) -> bool {
+        self == Verdict::default()
+    }
+}
+
+/// Writes all but user and parity bytes, then scrambles.
+pub fn seal(sector: &mut [u8], address: Address) -> Result<(), Refusal> {
+    check_length(sector)?;
+    check_address(address)?;
+    sector[..HEADER_START].copy_from_slice(&SYNC);
+    sector[HEADER_START..MODE_PLACE].copy_from_slice(&address.bcd());
+    sector[MODE_PLACE] = 1;
+    let code = edc_sliced(&sector[..EDC_START]);
+    sector[EDC_START..ZEROS_START].copy_from_slice(&code.to_le_bytes());
+    sector[ZEROS_START..PARITY_START].fill(0);
+    scramble(&mut sector[HEADER_START..]);
+    Ok(())
+}
+
+/// Descrambles; the sync bytes are never scrambled.
+pub fn open(sector: &mut [u8]) -> Result<(), Refusal> {
+    check_length(sector)?;
+    scramble(&mut sector[HEADER_START..]);
+    Ok(())
+}
+
+/// Judges a descrambled sector.
+pub fn judge(sector: &[u8], expected: Address) -> Result<Verdict, Refusal> {
+    check_length(sector)?;
+    check_address(expected)?;
+    let stored = &sector[EDC_START..ZEROS_START];
+    let sound = sector[..HEADER_START] == SYNC
+        && sector[MODE_PLACE] == 1
+        && stored == edc_sliced(&sector[..EDC_START]).to_le_bytes();
+    let hcei = sector[HEADER_START..MODE_PLACE] != expected.bcd();
+    Ok(Verdict { staerr: !sound, hcei })
+}
+
+fn check_length(sector: &[u8]) -> Result<(), Refusal> {
+    if sector.len() == SECTOR_BYTES {
+        Ok(())
+    } else {
+        Err(Refusal::WrongLength)
+    }
+}
+
+fn check_address(address: Address) -> Result<(), Refusal> {
+    if address.is_valid() {
+        Ok(())
+    } else {
+        Err(Refusal::BadAddress)
+    }
+}
+
+#[cfg(test)]
+mod tests {
+    use super::*;
+
+    const ADDRESS: Address = Address::new(12, 34, 56);
+
+    fn opened_sector() -> Vec<u8> {
+        let mut sector: Vec<u8> = (0..SECTOR_BYTES).map(|place| (place * 7) as u8).collect();
+        seal(&mut sector, ADDRESS).unwrap();
+        open(&mut sector).unwrap();
+        sector
+    }
+
+    #[test]
+    fn sealing_keeps_user_and_parity_bytes() {
+        let sector = opened_sector();
+        for place in (USER_START..EDC_START).chain(PARITY_START..SECTOR_BYTES) {
+            assert_eq!(sector[place], (place * 7) as u8);
+        }
+        assert_eq!(sector[ZEROS_START..PARITY_START], [0; 8]);
+        assert!(judge(&sector, ADDRESS).unwrap().is_good());
+    }
+
+    #[test]
+    fn sync_stays_clear_when_sealed() {
+        let mut sector = vec![0x55; SECTOR_BYTES];
+        seal(&mut sector, ADDRESS).unwrap();
+        assert_eq!(sector[..12], SYNC);
+        assert_eq!(sector[12..16], [0x12 ^ 0x01, 0x34 ^ 0x80, 0x56, 0x01 ^ 0x60]);
+    }
+
+    #[test]
+    fn wrong_lengths_are_refused_before_bad_addresses() {
+        let bad = Address::new(0, 60, 0);
+        for length in [0, 1, 12, 2340, 2351, 2353, 2560, 4704] {
+            let mut bytes = vec![3; length];
+            assert_eq!(seal(&mut bytes, bad), Err(Refusal::WrongLength));
+            assert_eq!(open(&mut bytes), Err(Refusal::WrongLength));
+            assert_eq!(judge(&bytes, bad), Err(Refusal::WrongLength));
+            assert!(bytes.iter().all(|&byte| byte == 3));
+        }
+    }
+
+    #[test]
+    fn bad_addresses_are_refused_and_change_nothing() {
+        for bad in [Address::new(100, 0, 0), Address::new(0, 60, 0), Address::new(0, 0, 75)] {
+            let mut bytes = vec![3; SECTOR_BYTES];
+            assert_eq!(seal(&mut bytes, bad), Err(Refusal::BadAddress));
+            assert_eq!(judge(&bytes, bad), Err(Refusal::BadAddress));
+            assert!(bytes.iter().all(|&byte| byte == 3));
+        }
+    }
+
+    #[test]
+    fn any_single_damage_before_the_zeros_is_seen() {
+        let mut sector = opened_sector();
+        for place in 0..ZEROS_START {
+            for bit in 0..8 {
+                sector[place] ^= 1 << bit;
+                let verdict = judge(&sector, ADDRESS).unwrap();
+                assert!(verdict.staerr);
+                assert_eq!(verdict.hcei, (HEADER_START..MODE_PLACE).contains(&place));
+                sector[place] ^= 1 << bit;
+            }
+        }
+    }
+
+    #[test]
+    fn zeros_and_parity_are_not_judged() {
+        let mut sector = opened_sector();
+        sector[ZEROS_START..].fill(0xA5);
+        assert!(judge(&sector, ADDRESS).unwrap().is_good());
+    }
+
+    #[test]
+    fn another_address_alone_is_hcei() {
+        let sector = opened_sector();
+        let verdict = judge(&sector, ADDRESS.next()).unwrap();
+        assert_eq!(verdict.bits(), 0x01);
+    }
+
+    #[test]
+    fn addresses_all_over_the_disc_are_judged_good() {
+        let mut address = Address::new(0, 0, 0);
+        // 2,000 strides of 227 frames go once around the disc.
+        for _ in 0..2000 {
+            let mut sector = vec![0x11; SECTOR_BYTES];
+            seal(&mut sector, address).unwrap();
+            open(&mut sector).unwrap();
+            assert!(judge(&sector, address).unwrap().is_good());
+            for _ in 0..227 {
+                address = address.next();
+            }
+        }
+    }
+}

@@ -1,0 +1,98 @@
+//! The bench program: one line in, one line out.
+
+use crate::call::{parse, Call};
+use crate::chip::{Answer, Chip, Refusal, BLOCK_BYTES};
+use ecma130::{seal, Address, EDC_START, SECTOR_BYTES, USER_START};
+
+const MAX_RING: u16 = 25;
+const MALFORMED: u16 = 2;
+
+pub struct Bench {
+    lines: u64,
+    chip: Option<Chip>,
+    ring: Vec<u8>,
+}
+
+impl Default for Bench {
+    fn default() -> Bench {
+        Bench::new()
+    }
+}
+
+impl Bench {
+    pub fn new() -> Bench {
+        Bench { lines: 0, chip: None, ring: vec![0; MAX_RING as usize * BLOCK_BYTES] }
+    }
+
+    /// The chip as the last line left it, if one was ever opened.
+    pub fn chip(&self) -> Option<&Chip> {
+        self.chip.as_ref()
+    }
+
+    /// Takes a line without its newline and gives the printed one.
+    pub fn line(&mut self, line: &[u8]) -> String {
+        self.lines += 1;
+        let (answer, out) = match parse(line).map(|call| self.run(call)) {
+            None => (MALFORMED, 0),
+            Some(Ok(out)) => (0, out),
+            Some(Err(refusal)) => (refusal as u16, 0),
+        };
+        let (tcc, bufc, irq) = self.counters();
+        format!("n={} answer={answer} out={out} tcc={tcc} bufc={bufc} irq={irq}", self.lines)
+    }
+
+    fn counters(&self) -> (usize, usize, u8) {
+        self.chip.map_or((0, 0, 0), |chip| (chip.tcc, chip.bufc, chip.hirq as u8))
+    }
+
+    fn run(&mut self, call: Call) -> Answer {
+        if let Call::Open { ring } = call {
+            return self.open(ring);
+        }
+        let chip = self.chip.as_mut().ok_or(Refusal::Switches)?;
+        let ring = &mut self.ring[..chip.blocks * BLOCK_BYTES];
+        match call {
+            Call::Sector { address, fill } => chip.sector(ring, &sealed(address, fill)?),
+            other => run_on(chip, ring, other),
+        }
+    }
+
+    /// A refused opening keeps the chip there was.
+    fn open(&mut self, ring: u16) -> Answer {
+        if ring > MAX_RING {
+            return Err(Refusal::Unsound);
+        }
+        self.chip = Some(Chip::open(ring)?);
+        Ok(0)
+    }
+}
+
+/// Runs any call that needs neither an opening nor a sealed sector.
+pub fn run_on(chip: &mut Chip, ring: &mut [u8], call: Call) -> Answer {
+    match call {
+        Call::Read { reg } => chip.read(reg),
+        Call::Write { reg, value } => chip.write(reg, value),
+        Call::Block { number } => chip.set_block(number),
+        Call::Window { offset, words } => chip.set_window(offset, words),
+        Call::Address { address } => chip.set_expected(address),
+        Call::Packet { index } => chip.packet_byte(index),
+        Call::Reset => chip.reset(),
+        Call::Look => Ok(chip.look(ring).len() as u16),
+        Call::Word => chip.host_word(ring),
+        Call::Command { code } => chip.host_command(code),
+        Call::Send { word } => chip.packet_word(word),
+        Call::Status => chip.host_status(),
+        Call::Srst => chip.srst(),
+        Call::Open { .. } | Call::Sector { .. } => unreachable!("taken by the callers"),
+    }
+}
+
+/// A sector with every user byte equal to `fill`, and parity 0 before it is
+/// scrambled.
+pub fn sealed(address: Address, fill: u16) -> Result<Vec<u8>, Refusal> {
+    let fill = u8::try_from(fill).map_err(|_| Refusal::OutOfRange)?;
+    let mut sector = vec![0; SECTOR_BYTES];
+    sector[USER_START..EDC_START].fill(fill);
+    seal(&mut sector, address).map_err(|_| Refusal::OutOfRange)?;
+    Ok(sector)
+}

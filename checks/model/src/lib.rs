@@ -1,0 +1,17 @@
+//! The buffer board of paper 01 once more, as plainly as it can be said, and
+//! the bench program's line format on top of it. Written from the paper
+//! alone, to be compared line by line with the bench program.
+
+mod bench;
+mod book;
+mod call;
+mod chip;
+mod random;
+mod script;
+
+pub use bench::{run_on, sealed, Bench};
+pub use book::Book;
+pub use call::{parse, Call, MAX_LINE_BYTES};
+pub use chip::{Answer, Chip, Refusal, Transfer, Window, BLOCK_BYTES};
+pub use random::Random;
+pub use script::Writer;

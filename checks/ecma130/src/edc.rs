@@ -5,7 +5,7 @@
 /// lowest bit goes first.
 const GENERATOR: u32 = reversed_product(0x1_8005, 0x1_0007);
 
-const TABLES: [[u32; 256]; 8] = make_tables();
+static TABLES: [[u32; 256]; 8] = make_tables();
 
 /// Multiplies two polynomials over GF(2), as the standard writes the
 /// generator: (x^16+x^15+x^2+1)(x^16+x^2+x+1).
@@ -74,16 +74,14 @@ pub fn edc_sliced(bytes: &[u8]) -> u32 {
     advance_by_table(register, rest)
 }
 
+/// The last four bytes do not wait for the register, so they are looked up apart.
 fn advance_eight(register: u32, chunk: &[u8]) -> u32 {
     let first = u32::from_le_bytes([chunk[0], chunk[1], chunk[2], chunk[3]]) ^ register;
-    TABLES[7][(first & 0xFF) as usize]
-        ^ TABLES[6][(first >> 8 & 0xFF) as usize]
-        ^ TABLES[5][(first >> 16 & 0xFF) as usize]
-        ^ TABLES[4][(first >> 24) as usize]
-        ^ TABLES[3][chunk[4] as usize]
-        ^ TABLES[2][chunk[5] as usize]
-        ^ TABLES[1][chunk[6] as usize]
-        ^ TABLES[0][chunk[7] as usize]
+    let second = (TABLES[3][chunk[4] as usize] ^ TABLES[2][chunk[5] as usize])
+        ^ (TABLES[1][chunk[6] as usize] ^ TABLES[0][chunk[7] as usize]);
+    let low = TABLES[7][(first & 0xFF) as usize] ^ TABLES[6][(first >> 8 & 0xFF) as usize];
+    let high = TABLES[5][(first >> 16 & 0xFF) as usize] ^ TABLES[4][(first >> 24) as usize];
+    second ^ (low ^ high)
 }
 
 #[cfg(test)]

@@ -2,7 +2,7 @@
 
 pub const SEQUENCE_BYTES: usize = 2340;
 
-const SEQUENCE: [u8; SEQUENCE_BYTES] = make_sequence();
+static SEQUENCE: [u8; SEQUENCE_BYTES] = make_sequence();
 
 /// A register of 15 bits holds s(n) in its lowest bit and s(n+14) in its
 /// highest; each step takes out s(n) and feeds in s(n) XOR s(n+1).
@@ -25,7 +25,7 @@ pub fn sequence() -> &'static [u8; SEQUENCE_BYTES] {
 
 /// Scrambles or descrambles: doing it twice gives the bytes back.
 pub fn scramble(bytes: &mut [u8]) {
-    for (byte, mask) in bytes.iter_mut().zip(SEQUENCE) {
+    for (byte, mask) in bytes.iter_mut().zip(&SEQUENCE) {
         *byte ^= mask;
     }
 }

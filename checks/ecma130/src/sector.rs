@@ -35,12 +35,17 @@ impl Verdict {
 
 /// Writes all but user and parity bytes, then scrambles.
 pub fn seal(sector: &mut [u8], address: Address) -> Result<(), Refusal> {
+    seal_with(edc_sliced, sector, address)
+}
+
+/// The same with one of the ways to take the code, to be timed.
+pub fn seal_with(edc: impl Fn(&[u8]) -> u32, sector: &mut [u8], address: Address) -> Result<(), Refusal> {
     check_length(sector)?;
     check_address(address)?;
     sector[..HEADER_START].copy_from_slice(&SYNC);
     sector[HEADER_START..MODE_PLACE].copy_from_slice(&address.bcd());
     sector[MODE_PLACE] = 1;
-    let code = edc_sliced(&sector[..EDC_START]);
+    let code = edc(&sector[..EDC_START]);
     sector[EDC_START..ZEROS_START].copy_from_slice(&code.to_le_bytes());
     sector[ZEROS_START..PARITY_START].fill(0);
     scramble(&mut sector[HEADER_START..]);
@@ -56,12 +61,16 @@ pub fn open(sector: &mut [u8]) -> Result<(), Refusal> {
 
 /// Judges a descrambled sector.
 pub fn judge(sector: &[u8], expected: Address) -> Result<Verdict, Refusal> {
+    judge_with(edc_sliced, sector, expected)
+}
+
+/// The same with one of the ways to take the code, to be timed.
+pub fn judge_with(edc: impl Fn(&[u8]) -> u32, sector: &[u8], expected: Address) -> Result<Verdict, Refusal> {
     check_length(sector)?;
     check_address(expected)?;
     let stored = &sector[EDC_START..ZEROS_START];
-    let sound = sector[..HEADER_START] == SYNC
-        && sector[MODE_PLACE] == 1
-        && stored == edc_sliced(&sector[..EDC_START]).to_le_bytes();
+    let sound =
+        sector[..HEADER_START] == SYNC && sector[MODE_PLACE] == 1 && stored == edc(&sector[..EDC_START]).to_le_bytes();
     let hcei = sector[HEADER_START..MODE_PLACE] != expected.bcd();
     Ok(Verdict { staerr: !sound, hcei })
 }

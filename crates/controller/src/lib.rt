@@ -10,6 +10,7 @@ mod step;
 mod transfer;
 mod write;
 
+pub use read::tarsta;
 pub use state::Acctl;
 pub use state::Ascsta;
 pub use state::Asctrl;

@@ -2,27 +2,12 @@
 ghost use mathlib.Core.Path.{_≡_};
 ghost use mathlib.Core.Bool.{true};
 ghost use lib.ListN.{length};
-ghost use Rattle.laws.specs.Same.{same};
 ghost use Rattle.sector.specs.Address.{valid};
 ghost use Rattle.sector.specs.Judge.{sync-holds, mode-holds, edc-holds, address-holds, staerr};
 use super::Address;
 use super::frame;
 use super::header;
-
-// Two slices hold the same bytes.
-fn equal(a: &[u8], b: &[u8]) -> bool
-    requires { ⌜ length (now a) ≡ length (now b) ⌝ }
-    ensures { λ r. ⌜ r ≡ same (now (a .entry)) (now (b .entry)) ⌝ }
-{
-    let mut i: usize = 0;
-    while i < a.len() {
-        if a[i] != b[i] {
-            return false;
-        }
-        i += 1;
-    }
-    true
-}
+use slices::equal;
 
 fn sync_holds(sector: &[u8]) -> bool
     requires { ⌜ length (now sector) ≡ 2352 ⌝ }

@@ -14,7 +14,7 @@ slice-aggregate-equal-2 : tie.Need-slice-aggregate-equal-2
 slice-aggregate-equal-2 c = search needs
 
 equal-requires : tie.Need-equal-requires
-equal-requires c κs = length-take-le 12 (c .before .before .before .args .sector .now) (omega arith)
+equal-requires c κs = search needs
 
 returns : tie.Need-returns
 unfolding sync-holds

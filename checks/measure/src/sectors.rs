@@ -1,0 +1,90 @@
+//! The library's calls beside the independent code, on the same sector.
+
+use crate::timing::{row, time_all, Row};
+use ecma130::{edc_by_table, edc_sliced, EDC_START, SECTOR_BYTES};
+use std::cell::RefCell;
+use std::hint::black_box;
+
+const OPEN: &str = "open 2,352 bytes";
+const EDC: &str = "EDC of 2,064 bytes";
+const OPEN_AND_JUDGE: &str = "memcpy, open and judge";
+const SEAL: &str = "seal";
+
+const LIBRARY: &str = "library";
+const BY_TABLE: &str = "byte table";
+const SLICED: &str = "sliced by eight";
+
+const ADDRESS: ecma130::Address = ecma130::Address::new(12, 34, 56);
+const LENT: cdrom::Address = cdrom::Address { minute: 12, second: 34, frame: 56 };
+
+/// A good sector on the disc, and the buffer that all calls work in.
+struct Bytes {
+    sealed: [u8; SECTOR_BYTES],
+    work: RefCell<[u8; SECTOR_BYTES]>,
+}
+
+/// The last column is a row's best time over the library's at the same task: above 1 the library is the faster.
+pub fn print() {
+    let bytes = Bytes::new();
+    let mut rows = rows(&bytes);
+    let timings = time_all(&mut rows);
+    println!("{:<28}{:<20}{:>8}{:>8}{:>12}", "ns a call", "", "best", "median", "to library");
+    for (row, timing) in rows.iter().zip(&timings) {
+        let library = rows.iter().position(|other| other.task == row.task && other.code == LIBRARY);
+        let ratio = library.map_or(f64::NAN, |place| timing.best / timings[place].best);
+        println!("{:<28}{:<20}{:>8.0}{:>8.0}{ratio:>12.2}", row.task, row.code, timing.best, timing.median);
+    }
+}
+
+impl Bytes {
+    fn new() -> Bytes {
+        let mut sealed = [0; SECTOR_BYTES];
+        sealed.iter_mut().enumerate().for_each(|(place, byte)| *byte = (place * 151) as u8);
+        cdrom::seal(&mut sealed, LENT).unwrap();
+        Bytes { sealed, work: RefCell::new(sealed) }
+    }
+
+    /// The bytes are those of the sealed sector, header and user bytes; what they hold does not matter here.
+    fn edc(&self, edc: impl Fn(&[u8]) -> u32) {
+        black_box(edc(black_box(&self.sealed[..EDC_START])));
+    }
+
+    fn change(&self, change: impl Fn(&mut [u8])) {
+        change(black_box(&mut *self.work.borrow_mut()));
+    }
+
+    /// A fresh copy each time: judging a sector that is not good ends early.
+    fn fresh(&self, change: impl Fn(&mut [u8])) {
+        let mut work = self.work.borrow_mut();
+        work.copy_from_slice(black_box(&self.sealed));
+        change(black_box(&mut *work));
+    }
+}
+
+fn rows(bytes: &Bytes) -> Vec<Row<'_>> {
+    vec![
+        row(OPEN, LIBRARY, || bytes.change(|s| cdrom::open(s).unwrap())),
+        row(OPEN, "independent", || bytes.change(|s| ecma130::open(s).unwrap())),
+        row(OPEN, "memcpy alone", || bytes.fresh(|_| ())),
+        row(EDC, LIBRARY, || bytes.edc(cdrom::edc)),
+        row(EDC, BY_TABLE, || bytes.edc(edc_by_table)),
+        row(EDC, SLICED, || bytes.edc(edc_sliced)),
+        row(OPEN_AND_JUDGE, LIBRARY, || bytes.fresh(open_and_judge)),
+        row(OPEN_AND_JUDGE, BY_TABLE, || bytes.fresh(|s| independent(edc_by_table, s))),
+        row(OPEN_AND_JUDGE, SLICED, || bytes.fresh(|s| independent(edc_sliced, s))),
+        row(SEAL, LIBRARY, || bytes.change(|s| cdrom::seal(s, LENT).unwrap())),
+        row(SEAL, BY_TABLE, || bytes.change(|s| ecma130::seal_with(edc_by_table, s, ADDRESS).unwrap())),
+        row(SEAL, SLICED, || bytes.change(|s| ecma130::seal_with(edc_sliced, s, ADDRESS).unwrap())),
+    ]
+}
+
+fn open_and_judge(sector: &mut [u8]) {
+    cdrom::open(sector).unwrap();
+    let verdict = cdrom::judge(black_box(sector), LENT).unwrap();
+    assert!(!verdict.staerr && !verdict.hcei);
+}
+
+fn independent(edc: impl Fn(&[u8]) -> u32, sector: &mut [u8]) {
+    ecma130::open(sector).unwrap();
+    assert!(ecma130::judge_with(edc, black_box(sector), ADDRESS).unwrap().is_good());
+}

@@ -1,0 +1,47 @@
+//! Times of calls, taken in rounds that go through all rows, so that a busy
+//! moment of the machine falls on all of them alike.
+
+use std::time::Instant;
+
+const ROUNDS: usize = 200;
+const CALLS: u32 = 200;
+
+/// A call to be timed: what is done, and by whose code.
+pub struct Row<'a> {
+    pub task: &'static str,
+    pub code: &'static str,
+    pub call: Box<dyn FnMut() + 'a>,
+}
+
+/// Nanoseconds a call, over the rounds.
+pub struct Timing {
+    pub best: f64,
+    pub median: f64,
+}
+
+pub fn row<'a>(task: &'static str, code: &'static str, call: impl FnMut() + 'a) -> Row<'a> {
+    Row { task, code, call: Box::new(call) }
+}
+
+pub fn time_all(rows: &mut [Row]) -> Vec<Timing> {
+    let mut rounds = vec![Vec::with_capacity(ROUNDS); rows.len()];
+    for _ in 0..ROUNDS {
+        for (row, times) in rows.iter_mut().zip(&mut rounds) {
+            times.push(time_round(&mut row.call));
+        }
+    }
+    rounds.into_iter().map(summary).collect()
+}
+
+fn time_round(call: &mut dyn FnMut()) -> f64 {
+    let start = Instant::now();
+    for _ in 0..CALLS {
+        call();
+    }
+    start.elapsed().as_nanos() as f64 / CALLS as f64
+}
+
+fn summary(mut times: Vec<f64>) -> Timing {
+    times.sort_by(f64::total_cmp);
+    Timing { best: times[0], median: times[times.len() / 2] }
+}

@@ -1,0 +1,40 @@
+use lib.Seq.{length-take-le}
+use native.Mathlib.Omega.{arith}
+use mathlib.Core.Path.{_≡_, refl, sym, ap, _∙_}
+use borrow.Author.Needs.{needs}
+use Rattle.bench.proofs.flush.Statement.{statement}
+use Rattle.bench.proofs.flush.Tie as tie
+use Rattle.bench.proofs.flush.Reads as reads
+use Rattle.bench.proofs.flush.Lts as lts
+use Rattle.io.proofs.write_all.Reads as write-all-reads
+use Rattle.os.proofs.fail.Reads as fail-reads
+
+-- src/main.rt:29:48
+slice-aggregate-write-all : tie.Need-slice-aggregate-write-all
+slice-aggregate-write-all c = sym (length-take-le (c .before .before .before .args .desk .waiting) (c .before .before .before .args .output .now) (omega arith))
+
+-- src/main.rt:29:9
+write-all-requires : tie.Need-write-all-requires
+write-all-requires c κs = search needs
+
+-- src/main.rt:31:18
+slice-aggregate-fail : tie.Need-slice-aggregate-fail
+slice-aggregate-fail c = search needs
+
+-- src/main.rt:31:9
+fail-requires : tie.Need-fail-requires
+fail-requires c κs = search needs
+
+-- src/main.rt:23:1
+returns : tie.Need-returns
+returns c = search needs
+
+pub flush-spec : {M : Type 1} → statement M
+flush-spec =
+    tie.close
+    (tie.spec
+    slice-aggregate-write-all
+    write-all-requires
+    slice-aggregate-fail
+    fail-requires
+    returns)

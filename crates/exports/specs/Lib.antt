@@ -1,0 +1,2 @@
+-- The exported calls: what each returns, as one number.
+pub mod Words

@@ -1,0 +1,31 @@
+-- What each exported call returns: a reply as one number, the reply number in the low byte and the result above it (paper 01, "Reply
+-- numbers"). What a call leaves in the sector is sector's to say. Assumes nothing.
+use mathlib.Core.List.{List}
+use Prim.Native.Nat.{ℕ, _+_, _*_}
+use Rattle.sector.specs.declared.Address.{Address}
+use Rattle.sector.specs.declared.Reply.{Reply}
+use Rattle.sector.specs.declared.Judged.{Judged}
+use Rattle.sector.specs.Calls.{seal-reply, open-reply, judge-answer}
+use Rattle.controller.specs.Read.{tarsta-byte}
+
+abbrev pub at : ℕ → ℕ → ℕ → Address
+at minute second frame = record { minute = minute; second = second; frame = frame }
+
+abbrev pub packed : ℕ → ℕ → ℕ
+packed number result = number + 256 * result
+
+abbrev pub reply-word : Reply → ℕ
+reply-word r = packed (r .number) (r .result)
+
+-- the result of a judging is the byte of register 80h: STAERR in bit 6, HCEI in bit 0
+abbrev pub judged-word : Judged → ℕ
+judged-word j = packed (j .number) (tarsta-byte (j .judgement))
+
+abbrev pub seal-word : List ℕ → Address → ℕ
+seal-word s a = reply-word (seal-reply s a)
+
+abbrev pub open-word : List ℕ → ℕ
+open-word s = reply-word (open-reply s)
+
+abbrev pub judge-word : List ℕ → Address → ℕ
+judge-word s a = judged-word (judge-answer s a)

@@ -1,0 +1,64 @@
+// The calls on sectors for C and Rust; include/cdrom.h declares them. A slice is passed as a pointer and then a length. None has a
+// precondition: any bytes, of any number, and any address are answered, and a refusal changes no byte.
+ghost use mathlib.Core.Path.{_≡_};
+ghost use Rattle.edc.specs.Edc.{edc};
+ghost use Rattle.sector.specs.Calls.{seal-sector, open-sector};
+ghost use Rattle.exports.specs.Words.{at, packed, seal-word, open-word, judge-word};
+use controller::tarsta;
+use sector::Address;
+
+fn at(minute: u16, second: u16, frame: u16) -> Address
+    ensures { λ r. ⌜ r ≡ at minute second frame ⌝ }
+{
+    Address {
+        minute,
+        second,
+        frame,
+    }
+}
+
+// The reply number in the low byte, the result above it.
+fn packed(number: u8, result: u16) -> u32
+    ensures { λ r. ⌜ r ≡ packed number result ⌝ }
+{
+    (number as u32) + 256 * (result as u32)
+}
+
+// Seals a buffer at an address where it lies.
+// Ruled out: one that seals at another address, and one that answers 0 where it refused.
+#[no_mangle]
+pub extern "C" fn cdrom_seal(sector: &mut [u8], minute: u16, second: u16, frame: u16) -> u32
+    ensures { λ r. ⌜ (r ≡ seal-word (now (sector .entry)) (at minute second frame)) × (now (sector .exit) ≡ seal-sector (now (sector .entry)) (at minute second frame)) ⌝ }
+{
+    let sealed = sector::seal(sector, at(minute, second, frame));
+    packed(sealed.number, sealed.result)
+}
+
+// Descrambles a sector where it lies.
+// Ruled out: one that answers 0 for every length, and one that leaves the sector as it was.
+#[no_mangle]
+pub extern "C" fn cdrom_open(sector: &mut [u8]) -> u32
+    ensures { λ r. ⌜ (r ≡ open-word (now (sector .entry))) × (now (sector .exit) ≡ open-sector (now (sector .entry))) ⌝ }
+{
+    let opened = sector::open(sector);
+    packed(opened.number, opened.result)
+}
+
+// Judges an opened sector against the address that is expected of it.
+// Ruled out: one that answers 0 where it refused, and one that puts the reply number above the bits.
+#[no_mangle]
+pub extern "C" fn cdrom_judge(sector: &[u8], minute: u16, second: u16, frame: u16) -> u32
+    ensures { λ r. ⌜ r ≡ judge-word (now (sector .entry)) (at minute second frame) ⌝ }
+{
+    let judged = sector::judge(sector, at(minute, second, frame));
+    packed(judged.number, tarsta(judged.judgement))
+}
+
+// The error detection code of the bytes, whatever their number.
+// Ruled out: one that leaves out a byte, and one that gives the code of other bytes.
+#[no_mangle]
+pub extern "C" fn cdrom_edc(bytes: &[u8]) -> u32
+    ensures { λ r. ⌜ r ≡ edc 0 (now (bytes .entry)) ⌝ }
+{
+    edc::edc(bytes)
+}

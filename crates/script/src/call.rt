@@ -1,0 +1,205 @@
+// What the bench answers to a call: the chip's answer, with the host word and the look as numbers.
+use crate::fill::unsealed;
+use crate::line::Call;
+use crate::line::Line;
+use crate::print::Shown;
+use chip::Chip;
+use chip::Told;
+use chip::Word;
+use sector::Address;
+ghost use Prim.Native.Nat.{min};
+ghost use mathlib.Core.Path.{_≡_};
+ghost use Rattle.script.specs.Answers.{refused, of-told, opening, plain, word, word-refused, look, disc, disc-ring, disc-buffer, called, called-ring, called-buffer, closed, answered, answered-memory, answered-buffer, shown};
+
+// Whether a chip is open, the chip, the reply number and the result that is printed.
+pub struct Answer {
+    pub opened: bool,
+    pub chip: Chip,
+    pub number: u8,
+    pub out: u64,
+}
+
+// What the printed line shows: the answer, and the counters and the interrupt after the call.
+pub(crate) fn shown(answer: Answer, lines: u64) -> Shown
+    ensures { λ r. ⌜ r ≡ shown answer lines ⌝ }
+{
+    let chip = answer.chip;
+    let controller = chip.controller;
+    let counts = controller.counts;
+    Shown {
+        lines: lines,
+        number: answer.number,
+        out: answer.out,
+        tcc: counts.tcc,
+        bufc: counts.bufc,
+        irq: controller.hirq,
+    }
+}
+
+fn refused(opened: bool, chip: Chip, number: u8) -> Answer
+    ensures { λ r. ⌜ r ≡ refused opened chip number ⌝ }
+{
+    Answer {
+        opened: opened,
+        chip: chip,
+        number: number,
+        out: 0,
+    }
+}
+
+fn told(t: Told) -> Answer
+    ensures { λ r. ⌜ r ≡ of-told t ⌝ }
+{
+    let chip = t.chip;
+    let reply = t.reply;
+    Answer {
+        opened: true,
+        chip: chip,
+        number: reply.number,
+        out: reply.result as u64,
+    }
+}
+
+// A ring above 25 blocks is refused as one that the chip refuses, and the chip there was is kept.
+fn open(opened: bool, chip: Chip, n: u16) -> Answer
+    ensures { λ r. ⌜ r ≡ opening opened chip n ⌝ }
+{
+    if n > 25 {
+        return refused(opened, chip, 1);
+    }
+    let t = Chip::open(n);
+    let reply = t.reply;
+    if reply.number != 0 {
+        return refused(opened, chip, 1);
+    }
+    told(t)
+}
+
+// The calls that are lent no memory.
+fn plain(chip: Chip, call: Call) -> Told
+    ensures { λ r. ⌜ r ≡ plain chip call ⌝ }
+{
+    match call {
+        Call::Read(reg) => chip.read(reg),
+        Call::Write(reg, value) => chip.write(reg, value),
+        Call::Block(number) => chip.set_block(number),
+        Call::Window(offset, words) => chip.set_window(offset, words),
+        Call::Expect(address) => chip.set_expected(address),
+        Call::Packet(index) => chip.packet_byte(index),
+        Call::Reset => chip.reset(),
+        Call::Command(code) => chip.command(code),
+        Call::Send(word) => chip.packet_word(word),
+        Call::Status => chip.status(),
+        Call::Srst => chip.srst(),
+    }
+}
+
+// A refusal of the host word, passed on.
+fn word_refused(chip: Chip, word: Word) -> Answer
+    ensures { λ r. ⌜ r ≡ word-refused chip word ⌝ }
+{
+    match word {
+        Word::Handed(_) => refused(true, chip, 0),
+        Word::Refused(number) => refused(true, chip, number),
+    }
+}
+
+fn host_word(chip: Chip, ring: &[u8]) -> Answer
+    ensures { λ r. ⌜ r ≡ word chip (now (ring .entry)) ⌝ }
+{
+    let t = chip.host_word(ring);
+    let next = t.chip;
+    let word = t.word;
+    let Word::Handed(w) = word else {
+        return word_refused(next, word);
+    };
+    Answer {
+        opened: true,
+        chip: next,
+        number: 0,
+        out: w as u64,
+    }
+}
+
+// The length in bytes of the part that a look shows.
+fn look(chip: Chip, ring: &[u8]) -> Answer
+    ensures { λ r. ⌜ r ≡ look chip (now (ring .entry)) ⌝ }
+{
+    let part = chip.look(ring);
+    Answer {
+        opened: true,
+        chip: chip,
+        number: 0,
+        out: part.len() as u64,
+    }
+}
+
+// A sector sealed at the address, every user byte equal to the fill and every parity byte 0.
+fn disc(chip: Chip, ring: &mut [u8], sector: &mut [u8], address: Address, byte: u16) -> Answer
+    ensures told { λ r. ⌜ r ≡ disc chip (now (ring .entry)) (now (sector .entry)) address byte ⌝ }
+    ensures ring { λ _. ⌜ now (ring .exit) ≡ disc-ring chip (now (ring .entry)) (now (sector .entry)) address byte ⌝ }
+    ensures buffer { λ _. ⌜ now (sector .exit) ≡ disc-buffer (now (sector .entry)) address byte ⌝ }
+{
+    if sector.len() != 2352 {
+        return refused(true, chip, 1);
+    }
+    if byte > 255 {
+        return refused(true, chip, 3);
+    }
+    unsealed(sector, byte as u8);
+    let reply = sector::seal(sector, address);
+    if reply.number != 0 {
+        return refused(true, chip, reply.number);
+    }
+    told(chip.sector(ring, sector))
+}
+
+// The calls of an open chip.
+fn called(chip: Chip, ring: &mut [u8], sector: &mut [u8], line: Line) -> Answer
+    ensures told { λ r. ⌜ r ≡ called chip (now (ring .entry)) (now (sector .entry)) line ⌝ }
+    ensures ring { λ _. ⌜ now (ring .exit) ≡ called-ring chip (now (ring .entry)) (now (sector .entry)) line ⌝ }
+    ensures buffer { λ _. ⌜ now (sector .exit) ≡ called-buffer (now (sector .entry)) line ⌝ }
+{
+    match line {
+        Line::Malformed => refused(true, chip, 2),
+        Line::Open(n) => open(true, chip, n),
+        Line::Plain(call) => told(plain(chip, call)),
+        Line::Look => look(chip, ring),
+        Line::Take => host_word(chip, ring),
+        Line::Disc(address, byte) => disc(chip, ring, sector, address, byte),
+    }
+}
+
+// Before an accepted opening every other call is 5.
+fn closed(chip: Chip, line: Line) -> Answer
+    ensures { λ r. ⌜ r ≡ closed chip line ⌝ }
+{
+    match line {
+        Line::Malformed => refused(false, chip, 2),
+        Line::Open(n) => open(false, chip, n),
+        Line::Plain(_) => refused(false, chip, 5),
+        Line::Look => refused(false, chip, 5),
+        Line::Take => refused(false, chip, 5),
+        Line::Disc(_, _) => refused(false, chip, 5),
+    }
+}
+
+fn least(a: usize, b: usize) -> usize
+    ensures { λ r. ⌜ r ≡ min a b ⌝ }
+{
+    if a < b { a } else { b }
+}
+
+// The ring of the open chip is the start of the lent memory, as long as its N blocks; the chip itself refuses one that is shorter.
+pub(crate) fn run(opened: bool, chip: Chip, memory: &mut [u8], sector: &mut [u8], line: Line) -> Answer
+    ensures told { λ r. ⌜ r ≡ answered opened chip (now (memory .entry)) (now (sector .entry)) line ⌝ }
+    ensures memory { λ _. ⌜ now (memory .exit) ≡ answered-memory opened chip (now (memory .entry)) (now (sector .entry)) line ⌝ }
+    ensures buffer { λ _. ⌜ now (sector .exit) ≡ answered-buffer opened (now (sector .entry)) line ⌝ }
+{
+    if !opened {
+        return closed(chip, line);
+    }
+    let place = chip.place;
+    let size = least(place.n as usize * 2560, memory.len());
+    called(chip, &mut memory[..size], sector, line)
+}

@@ -1,0 +1,77 @@
+// The bench: a line of input, given to the chip that is open, and the line that is printed (paper 01, "Bench cases").
+mod call;
+mod decimal;
+mod fill;
+mod form;
+mod line;
+mod numbers;
+mod print;
+
+use chip::Chip;
+ghost use Prim.Native.Nat.{_≤_};
+ghost use mathlib.Core.Path.{_≡_};
+ghost use Rattle.script.specs.Bench.{started, ran, ran-memory, ran-buffer, ran-out};
+
+// The least room for a printed line, which takes at most 152 bytes.
+pub const ROOM: usize = 160;
+
+// Whether a chip is open, the chip, and how many lines there have been.
+pub struct Bench {
+    pub opened: bool,
+    pub chip: Chip,
+    pub lines: u64,
+}
+
+// The bench after a line, and the length of the printed line.
+pub struct Ran {
+    pub bench: Bench,
+    pub size: usize,
+}
+
+impl Bench {
+    // Before any line: no chip is open.
+    // Ruled out: a bench with a chip open, and one whose count begins at 1.
+    pub fn start() -> Bench
+        ensures { λ r. ⌜ r ≡ started ⌝ }
+    {
+        let told = Chip::open(0);
+        let chip = told.chip;
+        Bench {
+            opened: false,
+            chip: chip,
+            lines: 0,
+        }
+    }
+
+    // Runs one line, given without its end, and puts the line to print at the start of `out`; with less room than `ROOM` nothing is done.
+    // The memory is the ring's, the sector a buffer of 2,352 bytes.
+    // Ruled out: one that answers a line before the chip is open, and one that prints the counters of before the call.
+    pub fn run(self, memory: &mut [u8], sector: &mut [u8], line: &[u8], out: &mut [u8]) -> Ran
+        ensures told { λ r. ⌜ r ≡ ran self (now (memory .entry)) (now (sector .entry)) (now (line .entry)) (now (out .entry)) ⌝ }
+        ensures memory { λ _. ⌜ now (memory .exit) ≡ ran-memory self (now (memory .entry)) (now (sector .entry)) (now (line .entry)) (now (out .entry)) ⌝ }
+        ensures buffer { λ _. ⌜ now (sector .exit) ≡ ran-buffer self (now (sector .entry)) (now (line .entry)) (now (out .entry)) ⌝ }
+        ensures out { λ _. ⌜ now (out .exit) ≡ ran-out self (now (memory .entry)) (now (sector .entry)) (now (line .entry)) (now (out .entry)) ⌝ }
+        ensures within { λ r. ⌜ r .size ≤ 152 ⌝ }
+    {
+        if out.len() < ROOM {
+            return Ran {
+                bench: self,
+                size: 0,
+            };
+        }
+        let parsed = line::parse(line);
+        let chip = self.chip;
+        let answer = call::run(self.opened, chip, memory, sector, parsed);
+        let n = std::num::wrapping_add_u64(self.lines, 1);
+        let size = print::print(out, call::shown(answer, n));
+        let next = answer.chip;
+        Ran {
+            bench: Bench {
+                opened: answer.opened,
+                chip: next,
+                lines: n,
+            },
+            size: size,
+        }
+    }
+}

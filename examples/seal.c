@@ -1,0 +1,54 @@
+/* Seals a sector, opens it and judges it, whole and damaged. From the repository's folder, after `rt staticlib exports`:
+ *
+ *   gcc -std=c11 -Wall -Wextra -Werror -O2 -Iinclude examples/seal.c target/staticlib/libexports.a -o target/seal && target/seal
+ *
+ * The exit status is 1 where an answer is not the one that is expected. */
+#include <stdio.h>
+#include <string.h>
+
+#include "cdrom.h"
+
+static int wrong = 0;
+
+static void show(const char *what, uint32_t found, uint32_t expected)
+{
+    printf("%-40s number %u result 0x%02X\n", what, (unsigned)CDROM_NUMBER(found), (unsigned)CDROM_RESULT(found));
+    if (found != expected) {
+        printf("  expected: number %u result 0x%02X\n", (unsigned)CDROM_NUMBER(expected), (unsigned)CDROM_RESULT(expected));
+        wrong = 1;
+    }
+}
+
+static uint32_t done_with(uint32_t result)
+{
+    return CDROM_DONE | result << 8;
+}
+
+int main(void)
+{
+    static const char text[] = "no block shall count that was not read and checked";
+    uint8_t sector[CDROM_SECTOR_BYTES] = {0};
+    uint8_t *user = sector + 16;
+    memcpy(user, text, sizeof text);
+
+    show("seal at 00:60:00, no address", cdrom_seal(sector, sizeof sector, 0, 60, 0), CDROM_BAD_ADDRESS);
+    show("seal one byte less", cdrom_seal(sector, sizeof sector - 1, 0, 2, 0), CDROM_WRONG_LENGTH);
+    show("seal at 00:02:00", cdrom_seal(sector, sizeof sector, 0, 2, 0), done_with(0));
+    show("open", cdrom_open(sector, sizeof sector), done_with(0));
+    show("judge at 00:02:00", cdrom_judge(sector, sizeof sector, 0, 2, 0), done_with(0));
+    show("judge at 00:02:01", cdrom_judge(sector, sizeof sector, 0, 2, 1), done_with(CDROM_HCEI));
+    if (memcmp(user, text, sizeof text) != 0) {
+        printf("the user bytes are not those that were sealed\n");
+        wrong = 1;
+    }
+
+    uint32_t code = cdrom_edc(sector, 2064);
+    uint32_t stored = sector[2064] | sector[2065] << 8 | sector[2066] << 16 | (uint32_t)sector[2067] << 24;
+    printf("%-40s 0x%08X, stored 0x%08X\n", "code of bytes 0 to 2,063", (unsigned)code, (unsigned)stored);
+    if (code != stored)
+        wrong = 1;
+
+    user[100] ^= 0x10;
+    show("judge with a damaged user byte", cdrom_judge(sector, sizeof sector, 0, 2, 0), done_with(CDROM_STAERR));
+    return wrong;
+}

@@ -30,14 +30,16 @@ extern "C" {
 #define CDROM_NUMBER(answer) ((answer) & 0xFF)
 #define CDROM_RESULT(answer) ((answer) >> 8)
 
-/* Makes the buffer a scrambled sector at an address, where it lies: writes bytes 0 to 15, the code and the zeros after it, and
- * keeps user bytes (16 to 2,063) and parity bytes (2,076 to 2,351). Minute 0..99, second 0..59, frame 0..74. The result is 0. */
+/* Makes the buffer a scrambled sector at an address, where it lies: writes bytes 0 to 15, the code and the zeros after it around the
+ * user bytes (16 to 2,063) and parity bytes (2,076 to 2,351) that are there, then scrambles bytes 12 to 2,351. Minute 0..99, second
+ * 0..59, frame 0..74. The result is 0. */
 uint32_t cdrom_seal(uint8_t *sector, size_t length, uint16_t minute, uint16_t second, uint16_t frame);
 
 /* Descrambles a sector where it lies. The result is 0. */
 uint32_t cdrom_open(uint8_t *sector, size_t length);
 
-/* Judges an opened sector against the address that is expected of it. The result is 0 for a good sector, or STAERR, HCEI or both. */
+/* Judges an opened sector against the address that is expected of it. The result is 0 for a good sector, or STAERR, HCEI or both. A
+ * refusal has the result 0 too: look at the number first. The whole answer is 0 exactly for a good sector. */
 uint32_t cdrom_judge(const uint8_t *sector, size_t length, uint16_t minute, uint16_t second, uint16_t frame);
 
 /* The error detection code of any number of bytes; it is no answer, and never refused. */

@@ -3,7 +3,68 @@
 
 use ecma130::Address;
 use model::{Call, Chip, MAX_LINE_BYTES};
-use std::collections::BTreeMap;
+use std::collections::{BTreeMap, BTreeSet};
+
+/// All that is counted.
+const NAMES: [&str; 57] = [
+    "T goes around the ring",
+    "malformed line",
+    "line over 80 bytes",
+    "well-formed line of 80 bytes",
+    "open accepted",
+    "open refused",
+    "call before any open",
+    "restart after a bad sector",
+    "DECEN low in a transfer",
+    "withdrawal of blocks",
+    "withdrawal refused (6)",
+    "skip of blocks",
+    "skip refused (6)",
+    "completion by firmware",
+    "start refused (5)",
+    "start refused (6)",
+    "write barred (4)",
+    "start by firmware",
+    "start by itself",
+    "start by itself at the last word",
+    "start by itself at the sixth packet word",
+    "start by itself at a sector",
+    "start by itself at a command",
+    "start of several blocks",
+    "start with byte count (STWCEN)",
+    "start cut by ATLIM",
+    "word handed over",
+    "word handed over from an odd offset",
+    "transfer of 1,024 words a block or more ended",
+    "transfer ended",
+    "transfer of several blocks ended",
+    "transfer ended with completion",
+    "packet reception armed again by AUTOEN",
+    "good sector",
+    "bad sector",
+    "sector taken in a transfer",
+    "address past 99:59:74",
+    "sector refused, DECEN low (7)",
+    "sector refused, held (8)",
+    "sector refused, ring full (9)",
+    "sector refused, BUFLIM (9)",
+    "packet command received",
+    "packet command without APKTEN",
+    "other command received",
+    "packet full",
+    "packet full with completion",
+    "packet full with ADCEN low",
+    "packet byte read",
+    "abort of a transfer",
+    "abort within a block",
+    "abort of a reception",
+    "look with bytes",
+    "look without bytes",
+    "look at a half-read block",
+    "word handed over through a moved window",
+    "block read through a second window",
+    "block read through a fourth window",
+];
 
 /// A line, the call it names, its answer, and the chip around it.
 pub struct Step<'a> {
@@ -15,15 +76,28 @@ pub struct Step<'a> {
     pub after: Option<Chip>,
 }
 
-#[derive(Default)]
 pub struct Happenings {
     counts: BTreeMap<&'static str, u64>,
     answers: BTreeMap<(&'static str, u16), u64>,
+    /// Offsets of the windows through which the oldest block has been read.
+    windows: BTreeSet<usize>,
+}
+
+impl Default for Happenings {
+    fn default() -> Happenings {
+        let counts = NAMES.map(|name| (name, 0)).into();
+        Happenings { counts, answers: BTreeMap::new(), windows: BTreeSet::new() }
+    }
 }
 
 impl Happenings {
     fn count_if(&mut self, happened: bool, what: &'static str) {
-        *self.counts.entry(what).or_default() += happened as u64;
+        *self.counts.get_mut(what).expect("a name of the list") += happened as u64;
+    }
+
+    /// What has not happened yet.
+    pub fn missing(&self) -> Vec<&'static str> {
+        self.counts.iter().filter(|(_, &count)| count == 0).map(|(&what, _)| what).collect()
     }
 
     pub fn note(&mut self, step: &Step) {
@@ -34,6 +108,7 @@ impl Happenings {
             return;
         };
         if matches!(call, Call::Open { .. }) {
+            self.windows.clear();
             return;
         }
         self.note_write(call, step.answer, &before);
@@ -42,6 +117,7 @@ impl Happenings {
         if step.answer == 0 {
             self.note_sector(call, step.out, &before, &after);
             self.note_word(call, &before);
+            self.note_windows(call, &before, &after);
             self.note_packet(call, &before, &after);
             self.note_abort(call, &before);
             self.count_if(after.t < before.t && after.tcc < before.tcc, "T goes around the ring");
@@ -107,6 +183,22 @@ impl Happenings {
         self.count_if(last && before.mbc > 0, "transfer of several blocks ended");
         self.count_if(last && before.ascen, "transfer ended with completion");
         self.count_if(last && before.ascen && before.autoen, "packet reception armed again by AUTOEN");
+    }
+
+    /// A look prints no bytes. They are compared by words instead: a window is
+    /// moved over a block, which stays the oldest when its transfers are
+    /// aborted before their last word.
+    fn note_windows(&mut self, call: Call, before: &Chip, after: &Chip) {
+        if matches!(call, Call::Word) {
+            let moved = self.windows.insert(before.window.offset);
+            let windows = self.windows.len();
+            self.count_if(windows > 1, "word handed over through a moved window");
+            self.count_if(moved && windows == 2, "block read through a second window");
+            self.count_if(moved && windows == 4, "block read through a fourth window");
+        }
+        if after.t != before.t || after.tcc == 0 {
+            self.windows.clear();
+        }
     }
 
     fn note_sector(&mut self, call: Call, out: u16, before: &Chip, after: &Chip) {
@@ -177,4 +269,14 @@ impl Happenings {
 
 fn is_last_word(chip: &Chip) -> bool {
     chip.transfer.is_some_and(|transfer| transfer.blocks_left == 1 && transfer.place + 1 == chip.window.words)
+}
+
+#[cfg(test)]
+mod tests {
+    use super::*;
+
+    #[test]
+    fn nothing_has_happened_at_first() {
+        assert_eq!(Happenings::default().missing().len(), NAMES.len());
+    }
 }

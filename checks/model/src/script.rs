@@ -78,8 +78,8 @@ impl Writer {
 
     fn opening(&mut self) -> Call {
         let ring = match self.random.below(20) {
-            0 => self.random.pick(&[0, 1, 2, 26, 255, 256, 65535]),
-            1..=11 => self.random.between(3, 6),
+            0..=1 => self.random.pick(&[0, 1, 2, 26, 255, 256, 65535]),
+            2..=11 => self.random.between(3, 6),
             _ => self.random.between(3, 25),
         };
         Call::Open { ring }
@@ -226,7 +226,7 @@ impl Writer {
         if chip.tcc == 0 && !self.random.one_in(8) {
             return self.fill(chip);
         }
-        if chip.tcc > 0 && chip.tcincen && self.random.one_in(60) {
+        if chip.tcc > 0 && chip.tcincen && self.random.one_in(8) {
             return self.show_oldest_block();
         }
         self.give_blocks(chip)
@@ -338,7 +338,7 @@ impl Writer {
 
     fn show_oldest_block(&mut self) -> Call {
         self.plan.extend([write(0x9C, 0x60), write(0x18, 0x40), write(0x12, 0)]);
-        if self.random.one_in(8) {
+        if self.random.one_in(40) {
             self.serve_whole_block();
         } else {
             self.sweep();

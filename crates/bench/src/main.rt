@@ -1,10 +1,10 @@
-// The bench: lines of calls on standard input, a line of answer for each on standard output. All that matters is in the library
-// `script`; this program finds the lines. Its contracts keep the buffers' bounds.
-use bytes::scan::find;
+// The bench: lines of calls on standard input, a line of answer for each on standard output. What a line means, does and prints, and
+// that each is run once and in order, is the library's, `script`; this program reads and writes. Its contracts keep the buffers' bounds.
 use libc::STDIN_FILENO;
 use libc::STDOUT_FILENO;
 use script::Bench;
-use script::ROOM;
+use script::feed;
+use slices::least;
 ghost use Prim.Native.Nat.{_+_, _≤_};
 ghost use mathlib.Core.Path.{_≡_};
 ghost use lib.ListN.{length};
@@ -12,94 +12,66 @@ ghost use lib.ListN.{length};
 // A line has at most 80 bytes; of a longer one 81 are kept, so that it stays too long and never fills the buffer.
 const KEPT: usize = 81;
 
-// The bench, how many bytes of answers wait to be written, and whether the output has failed.
-struct Desk {
-    bench: Bench,
-    waiting: usize,
-    failed: bool,
-}
-
-// Writes the answers that wait.
-fn flush(desk: Desk, output: &[u8]) -> Desk
-    requires { ⌜ desk .waiting ≤ length (now output) ⌝ }
-    ensures { λ r. ⌜ r .waiting ≡ 0 ⌝ }
+// Writes the first bytes of the output, and tells where that fails.
+fn put(output: &[u8], size: usize) -> bool
+    requires { ⌜ size ≤ length (now output) ⌝ }
 {
-    let bench = desk.bench;
-    let waiting = desk.waiting;
-    let written = io::write_all(STDOUT_FILENO, &output[..waiting]);
+    let written = io::write_all(STDOUT_FILENO, &output[..size]);
     if !written {
         os::fail(b"write");
     }
-    Desk {
-        bench: bench,
-        waiting: 0,
-        failed: desk.failed | !written,
-    }
+    written
 }
 
-// Room for one answer more.
-fn make_room(desk: Desk, output: &[u8]) -> Desk
-    requires { ⌜ 160 ≤ length (now output) ⌝ }
-    requires { ⌜ desk .waiting ≤ length (now output) ⌝ }
-    ensures { λ r. ⌜ r .waiting + 160 ≤ length (now (output .entry)) ⌝ }
-{
-    if output.len() - desk.waiting >= ROOM {
-        return desk;
-    }
-    flush(desk, output)
+// The bench after lines of the input were run: where they began, how many bytes they took, and whether their answers were written.
+struct Turn {
+    bench: Bench,
+    at: usize,
+    taken: usize,
+    written: bool,
 }
 
-// Runs a line, and puts its answer behind those that wait.
-fn answer(start: Desk, line: &[u8], memory: &mut [u8], sector: &mut [u8], output: &mut [u8]) -> Desk
-    requires { ⌜ 160 ≤ length (now output) ⌝ }
-    requires { ⌜ start .waiting ≤ length (now output) ⌝ }
-    ensures { λ r. ⌜ r .waiting ≤ length (now (output .exit)) ⌝ }
+// Runs lines from a place on, as many as the output has room for, and writes their answers.
+fn run_some(
+    bench: Bench,
+    input: &[u8],
+    at: usize,
+    memory: &mut [u8],
+    sector: &mut [u8],
+    output: &mut [u8],
+) -> Turn
+    requires { ⌜ at ≤ length (now input) ⌝ }
+    ensures { λ r. ⌜ r .at ≡ at ⌝ }
+    ensures { λ r. ⌜ r .at + r .taken ≤ length (now (input .entry)) ⌝ }
 {
-    let desk = make_room(start, output);
-    let waiting = desk.waiting;
-    let bench = desk.bench;
-    let ran = bench.run(memory, sector, line, &mut output[waiting..]);
-    let next = ran.bench;
-    Desk {
+    let fed = feed(bench, memory, sector, &input[at..], output);
+    let next = fed.bench;
+    let written = put(output, fed.size);
+    Turn {
         bench: next,
-        waiting: waiting + ran.size,
-        failed: desk.failed,
+        at: at,
+        taken: fed.taken,
+        written: written,
     }
 }
 
-// The bench after the lines that have an end, and where the first that has none begins.
-struct Fed {
-    desk: Desk,
-    rest: usize,
-}
-
-// Runs the lines of `input` that have an end. None ends before `from`: those bytes were looked at before.
-fn feed(start: Desk, input: &[u8], from: usize, memory: &mut [u8], sector: &mut [u8], output: &mut [u8]) -> Fed
-    requires { ⌜ 160 ≤ length (now output) ⌝ }
-    requires { ⌜ start .waiting ≤ length (now output) ⌝ }
-    requires { ⌜ from ≤ length (now input) ⌝ }
-    ensures { λ r. ⌜ r .desk .waiting ≤ length (now (output .exit)) ⌝ }
-    ensures { λ r. ⌜ r .rest ≤ length (now (input .entry)) ⌝ }
+// Runs every line of the input that has an end. What follows the last of them begins at the answer's `at`.
+fn run_lines(
+    start: Bench,
+    input: &[u8],
+    memory: &mut [u8],
+    sector: &mut [u8],
+    output: &mut [u8],
+) -> Turn
+    ensures { λ r. ⌜ r .at ≤ length (now (input .entry)) ⌝ }
 {
-    let mut desk = start;
-    let mut rest = 0;
-    let mut end = find(input, from, input.len(), b'\n');
-    while end < input.len() {
-        desk = answer(desk, &input[rest..end], memory, sector, output);
-        rest = end + 1;
-        end = find(input, rest, input.len(), b'\n');
+    let mut turn = run_some(start, input, 0, memory, sector, output);
+    while turn.taken > 0 && turn.written {
+        let bench = turn.bench;
+        let at = turn.at + turn.taken;
+        turn = run_some(bench, input, at, memory, sector, output);
     }
-    Fed {
-        desk: desk,
-        rest: rest,
-    }
-}
-
-fn least(a: usize, b: usize) -> usize
-    ensures { λ r. ⌜ r ≤ a ⌝ }
-    ensures { λ r. ⌜ r ≤ b ⌝ }
-{
-    if a < b { a } else { b }
+    turn
 }
 
 // Moves what was read of a line with no end yet to the front, and gives its length.
@@ -115,13 +87,6 @@ fn keep(input: &mut [u8], rest: usize, end: usize) -> usize
         i += 1;
     }
     size
-}
-
-// The bench between two reads: the bytes of an unended line at the front of the input buffer, and whether to go on.
-struct Round {
-    desk: Desk,
-    kept: usize,
-    goes_on: bool,
 }
 
 // Reads once, behind the bytes that are kept, and gives the place after what came: `kept` itself where the input has ended or a read fails.
@@ -140,48 +105,65 @@ fn read_more(input: &mut [u8], kept: usize) -> usize
     kept + io::count(got, &input[kept..])
 }
 
+// The bench between two reads: the bytes of an unended line at the front of the input buffer, whether to read on, and whether the
+// output has failed.
+struct Round {
+    bench: Bench,
+    kept: usize,
+    goes_on: bool,
+    failed: bool,
+}
+
 // Reads once, runs the lines that ended and writes their answers.
-fn read_once(round: Round, input: &mut [u8], memory: &mut [u8], sector: &mut [u8], output: &mut [u8]) -> Round
+fn read_once(
+    round: Round,
+    input: &mut [u8],
+    memory: &mut [u8],
+    sector: &mut [u8],
+    output: &mut [u8],
+) -> Round
     requires { ⌜ 81 ≤ length (now input) ⌝ }
     requires { ⌜ round .kept ≤ 81 ⌝ }
-    requires { ⌜ 160 ≤ length (now output) ⌝ }
-    requires { ⌜ round .desk .waiting ≤ length (now output) ⌝ }
     ensures { λ r. ⌜ r .kept ≤ 81 ⌝ }
-    ensures { λ r. ⌜ r .desk .waiting ≤ length (now (output .exit)) ⌝ }
 {
-    let desk = round.desk;
+    let bench = round.bench;
     let kept = round.kept;
     let end = read_more(input, kept);
     if end == kept {
         return Round {
-            desk: desk,
+            bench: bench,
             kept: kept,
             goes_on: false,
+            failed: false,
         };
     }
-    let fed = feed(desk, &input[..end], kept, memory, sector, output);
-    let rest = fed.rest;
-    let ran = fed.desk;
-    let done = flush(ran, output);
+    let turn = run_lines(bench, &input[..end], memory, sector, output);
+    let next = turn.bench;
+    let rest = turn.at;
     Round {
-        desk: done,
+        bench: next,
         kept: keep(input, rest, end),
-        goes_on: !done.failed,
+        goes_on: turn.written,
+        failed: !turn.written,
     }
 }
 
 // A proved loop has to end, and nothing says that the input does: the reads are counted down from a number that no run uses up.
-fn read_all(start: Desk, input: &mut [u8], memory: &mut [u8], sector: &mut [u8], output: &mut [u8]) -> Round
+fn read_all(
+    start: Bench,
+    input: &mut [u8],
+    memory: &mut [u8],
+    sector: &mut [u8],
+    output: &mut [u8],
+) -> Round
     requires { ⌜ 81 ≤ length (now input) ⌝ }
-    requires { ⌜ 160 ≤ length (now output) ⌝ }
-    requires { ⌜ start .waiting ≤ length (now output) ⌝ }
     ensures { λ r. ⌜ r .kept ≤ 81 ⌝ }
-    ensures { λ r. ⌜ r .desk .waiting ≤ length (now (output .exit)) ⌝ }
 {
     let mut round = Round {
-        desk: start,
+        bench: start,
         kept: 0,
         goes_on: true,
+        failed: false,
     };
     let mut left = u64::MAX;
     while left > 0 && round.goes_on {
@@ -194,16 +176,15 @@ fn read_all(start: Desk, input: &mut [u8], memory: &mut [u8], sector: &mut [u8],
 // A last line may have no end.
 fn last(round: Round, input: &[u8], memory: &mut [u8], sector: &mut [u8], output: &mut [u8])
     requires { ⌜ round .kept ≤ length (now input) ⌝ }
-    requires { ⌜ 160 ≤ length (now output) ⌝ }
-    requires { ⌜ round .desk .waiting ≤ length (now output) ⌝ }
+    requires { ⌜ 152 ≤ length (now output) ⌝ }
 {
-    let desk = round.desk;
+    let bench = round.bench;
     let kept = round.kept;
-    if (kept == 0) | desk.failed {
+    if (kept == 0) | round.failed {
         return;
     }
-    let done = answer(desk, &input[..kept], memory, sector, output);
-    flush(done, output);
+    let ran = bench.run(memory, sector, &input[..kept], output);
+    put(output, ran.size);
 }
 
 fn main() {
@@ -215,11 +196,6 @@ fn main() {
     let memory: &mut [u8] = &mut ring_space;
     let input: &mut [u8] = &mut input_space;
     let output: &mut [u8] = &mut output_space;
-    let desk = Desk {
-        bench: Bench::start(),
-        waiting: 0,
-        failed: false,
-    };
-    let end = read_all(desk, input, memory, sector, output);
+    let end = read_all(Bench::start(), input, memory, sector, output);
     last(end, input, memory, sector, output);
 }

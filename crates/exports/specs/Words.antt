@@ -7,6 +7,8 @@ use Rattle.sector.specs.declared.Reply.{Reply}
 use Rattle.sector.specs.declared.Judged.{Judged}
 use Rattle.sector.specs.Calls.{seal-reply, open-reply, judge-answer}
 use Rattle.controller.specs.Read.{tarsta-byte}
+use Rattle.script.specs.Bench.{started}
+use Rattle.script.specs.Feed.{Progress, fed-text}
 
 abbrev pub at : ℕ → ℕ → ℕ → Address
 at minute second frame = record { minute = minute; second = second; frame = frame }
@@ -29,3 +31,7 @@ open-word s = reply-word (open-reply s)
 
 abbrev pub judge-word : List ℕ → Address → ℕ
 judge-word s a = judged-word (judge-answer s a)
+
+-- a run of the bench over a text, from its start
+abbrev pub bench-run : List ℕ → List ℕ → List ℕ → List ℕ → Progress
+bench-run memory sector text out = fed-text started memory sector text out

@@ -1,10 +1,13 @@
-// The calls on sectors for C and Rust; include/cdrom.h declares them. A slice is passed as a pointer and then a length. None has a
-// precondition: any bytes, of any number, and any address are answered, and a refusal changes no byte.
+// The calls on sectors, and the bench, for C and Rust; include/cdrom.h declares them and says what a C caller must keep. A slice is passed
+// as a pointer and then a length. None has a precondition: any bytes, of any number, and any address are answered, and a refusal changes no byte.
 ghost use mathlib.Core.Path.{_≡_};
+ghost use lib.ListN.{length};
 ghost use Rattle.edc.specs.Edc.{edc};
 ghost use Rattle.sector.specs.Calls.{seal-sector, open-sector};
-ghost use Rattle.exports.specs.Words.{at, packed, seal-word, open-word, judge-word};
+ghost use Rattle.script.specs.Feed.{fed-out};
+ghost use Rattle.exports.specs.Words.{at, packed, seal-word, open-word, judge-word, bench-run};
 use controller::tarsta;
+use script::Bench;
 use sector::Address;
 
 fn at(minute: u16, second: u16, frame: u16) -> Address
@@ -55,10 +58,29 @@ pub extern "C" fn cdrom_judge(sector: &[u8], minute: u16, second: u16, frame: u1
 }
 
 // The error detection code of the bytes, whatever their number.
-// Ruled out: one that leaves out a byte, and one that gives the code of other bytes.
+// Ruled out: one that leaves out a byte, and one that starts from another value than 0.
 #[no_mangle]
 pub extern "C" fn cdrom_edc(bytes: &[u8]) -> u32
     ensures { λ r. ⌜ r ≡ edc 0 (now (bytes .entry)) ⌝ }
 {
     edc::edc(bytes)
+}
+
+// Runs the lines of a text that have an end, from a bench where no chip is open, while `out` has room for an answer, and gives the length
+// of the answers.
+// Ruled out: one that leaves out a line or runs it twice, and one that keeps a chip from one call to the next.
+#[no_mangle]
+pub extern "C" fn cdrom_bench(
+    memory: &mut [u8],
+    sector: &mut [u8],
+    text: &[u8],
+    out: &mut [u8],
+) -> usize
+    ensures size { λ r. ⌜ r ≡ length (bench-run (now (memory .entry)) (now (sector .entry)) (now (text .entry)) (now (out .entry)) .printed) ⌝ }
+    ensures memory { λ _. ⌜ now (memory .exit) ≡ bench-run (now (memory .entry)) (now (sector .entry)) (now (text .entry)) (now (out .entry)) .memory ⌝ }
+    ensures buffer { λ _. ⌜ now (sector .exit) ≡ bench-run (now (memory .entry)) (now (sector .entry)) (now (text .entry)) (now (out .entry)) .sector ⌝ }
+    ensures out { λ _. ⌜ now (out .exit) ≡ fed-out (bench-run (now (memory .entry)) (now (sector .entry)) (now (text .entry)) (now (out .entry))) (now (out .entry)) ⌝ }
+{
+    let fed = script::feed(Bench::start(), memory, sector, text, out);
+    fed.size
 }

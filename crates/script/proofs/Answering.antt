@@ -1,15 +1,15 @@
 -- What the bench answers, by cases of the word handed over, of a sector line and of the bench. Assumes nothing.
-use Prim.Native.Nat.{ℕ, _+_, _-_, _≤_, _<_, min}
-use mathlib.Core.Path.{_≡_, refl, sym, ap, _∙_}
-use mathlib.Core.Bool.{Bool, true, false, not}
+use mathlib.Core.Path.{_≡_, sym, ap, _∙_}
+use mathlib.Core.Bool.{true, false}
 use mathlib.Core.List.{List, _++_, append-assoc}
 use mathlib.Core.Logic.{⊎-elim}
+use Prim.Native.Nat.{ℕ, _+_, _-_, _≤_, _<_, min}
 use native.Mathlib.Omega.{arith}
-use lib.Dec.{ltb, eqb}
+use lib.Dec.{eqb}
 use lib.ListN.{length, take, drop, replicate, length-replicate, length-append, length-take, length-drop, drop-of-length-le}
 use lib.Seq.{take-all, take-at, take-append-add, length-take-le}
 use borrow.Rule.Slice.PartMut.{putMid, midOf}
-use Rattle.laws.specs.Choice.{if_then_else_}
+use borrow.Author.Tests.{eq-eqb, ne-eqb, lt-ltb, le-ltb}
 use Rattle.laws.proofs.Parts.{put-rest, mid-rest, put-part}
 use Rattle.laws.proofs.Wrap.{lt-or-ge}
 use Rattle.laws.proofs.Choice.{if-true, if-false, not-of-true, not-of-false}
@@ -23,8 +23,8 @@ use Rattle.chip.specs.declared.WordTold.{WordTold}
 use Rattle.chip.specs.declared.Word.the-variants.{Handed, Refused}
 use Rattle.script.specs.Answers.{refused, of-told, word, word-refused, unsealed, disc-number, disc-buffer, disc, disc-ring}
 use Rattle.script.specs.declared.call.Answer.{Answer}
-use borrow.Author.Tests.{eq-eqb, ne-eqb, lt-ltb, le-ltb}
 
+-- the host word, by whether one is handed over
 module _ (c : Chip) (ring : List ℕ) (t : WordTold) (e : t ≡ host.word-told c ring) where
   of-word : WordTold → Answer
   of-word u = record { opened = true; chip = u .chip; number = host.word-number (u .word); out = host.word-value (u .word) }
@@ -51,14 +51,17 @@ module _ (c : Chip) (ring s : List ℕ) (a : Address) (byte : ℕ) where
   unfolding disc-ring
   disc-not-ring n e h = sym (if-false _ _ _ (ap (λ (k : ℕ). eqb k 0) (sym e) ∙ h))
 
-  pub disc-done : (n : ℕ) → n ≡ disc-number s a byte → eqb n 0 ≡ true → of-told (calls.sector-told c ring (disc-buffer s a byte)) ≡ disc c ring s a byte
+  pub disc-done : (n : ℕ) → n ≡ disc-number s a byte → eqb n 0 ≡ true
+      → of-told (calls.sector-told c ring (disc-buffer s a byte)) ≡ disc c ring s a byte
   unfolding disc
   disc-done n e h = sym (if-true _ _ _ (ap (λ (k : ℕ). eqb k 0) (sym e) ∙ h))
 
-  pub disc-done-ring : (n : ℕ) → n ≡ disc-number s a byte → eqb n 0 ≡ true → calls.sector-ring c ring (disc-buffer s a byte) ≡ disc-ring c ring s a byte
+  pub disc-done-ring : (n : ℕ) → n ≡ disc-number s a byte → eqb n 0 ≡ true
+      → calls.sector-ring c ring (disc-buffer s a byte) ≡ disc-ring c ring s a byte
   unfolding disc-ring
   disc-done-ring n e h = sym (if-true _ _ _ (ap (λ (k : ℕ). eqb k 0) (sym e) ∙ h))
 
+-- its number and its buffer, by the tests in their order: the buffer's size, the fill, the address
 module _ (s : List ℕ) (a : Address) (byte : ℕ) where
   pub number-size : (length s ≡ 2352 → ⊥) → 1 ≡ disc-number s a byte
   unfolding disc-number
@@ -76,7 +79,8 @@ module _ (s : List ℕ) (a : Address) (byte : ℕ) where
   unfolding disc-buffer
   buffer-fill h k = sym (if-false _ _ _ (not-of-true _ (eq-eqb _ _ h)) ∙ if-true _ _ _ (lt-ltb _ _ k))
 
-  pub seal-number : (l : List ℕ) (r : Reply) → length s ≡ 2352 → byte ≤ 255 → l ≡ unsealed byte → r ≡ seal-reply l a → r .number ≡ disc-number s a byte
+  pub seal-number : (l : List ℕ) (r : Reply) → length s ≡ 2352 → byte ≤ 255 → l ≡ unsealed byte → r ≡ seal-reply l a
+      → r .number ≡ disc-number s a byte
   unfolding disc-number
   seal-number l r h k e q =
       ap (λ (x : Reply). x .number) q ∙ ap (λ (x : List ℕ). seal-reply x a .number) e
@@ -134,5 +138,6 @@ module _ (s a b z : List ℕ) (byte : ℕ) where
       let lb : length b ≡ 2048 = ap length eb′ ∙ length-replicate {A = ℕ} 2048 byte in
       let em : putMid 16 2048 (a ++ drop 16 s) b ≡ take 16 (a ++ drop 16 s) ++ (b ++ drop 2064 (a ++ drop 16 s)) = put-part 16 2048 (a ++ drop 16 s) b in
       let lm : length (putMid 16 2048 (a ++ drop 16 s) b) ≡ 2352 = ap length em ∙ simp (length-append, length-take, length-drop) (omega arith) in
-      let ez′ : z ≡ replicate 288 0 = ez ∙ ap (λ (n : ℕ). replicate n 0) (ap length (mid-rest 2064 (putMid 16 2048 (a ++ drop 16 s) b)) ∙ length-drop 2064 (putMid 16 2048 (a ++ drop 16 s) b) ∙ ap (λ (n : ℕ). n - 2064) lm) in
+      let l288 = ap length (mid-rest 2064 (putMid 16 2048 (a ++ drop 16 s) b)) ∙ length-drop 2064 (putMid 16 2048 (a ++ drop 16 s) b) in
+      let ez′ : z ≡ replicate 288 0 = ez ∙ ap (λ (n : ℕ). replicate n 0) (l288 ∙ ap (λ (n : ℕ). n - 2064) lm) in
       put-rest 2064 (putMid 16 2048 (a ++ drop 16 s) b) z ∙ ap (λ (l : List ℕ). take 2064 l ++ z) em ∙ laid s a b z byte ea′ eb′ ez′

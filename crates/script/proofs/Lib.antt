@@ -1,7 +1,4 @@
--- Laws of the bench's definitions, and of writing text into a buffer.
-pub mod Reading
+-- Laws of the bench's definitions.
 pub mod Answering
 pub mod Running
-pub mod Digits
-pub mod Written
-mod Listing
+pub mod Feeding

@@ -1,19 +1,18 @@
 -- A line that is run: what its steps leave, joined into the bench's definitions. Assumes nothing.
-use Prim.Native.Nat.{ℕ, _+_, _%_, _^_, _≤_}
-use mathlib.Core.Path.{_≡_, refl, sym, ap, ap₂, _∙_}
+use mathlib.Core.Path.{_≡_, sym, ap, ap₂, _∙_}
 use mathlib.Core.List.{List, _++_}
+use Prim.Native.Nat.{ℕ, _+_, _%_, _^_, _≤_}
 use lib.ListN.{length, drop}
 use borrow.Author.Tests.{le-ltb}
 use Rattle.laws.proofs.Choice.{if-false}
-use Rattle.script.specs.Grammar.{parse}
+use Rattle.syntax.specs.Grammar.{parse}
 use Rattle.script.specs.Answers.{answered, answered-memory, answered-buffer, shown}
-use Rattle.script.specs.Print.{printed}
-use Rattle.script.specs.Bench.{ran, ran-memory, ran-buffer, ran-out, reply, count, text, after}
-use Rattle.script.specs.declared.line.Line.{Line}
+use Rattle.syntax.specs.Print.{printed}
+use Rattle.script.specs.Bench.{ran, ran-memory, ran-buffer, ran-out, reply, text, after}
+use Rattle.syntax.specs.declared.line.Line.{Line}
 use Rattle.script.specs.declared.call.Answer.{Answer}
-use Rattle.script.specs.declared.print.Shown.{Shown}
+use Rattle.syntax.specs.declared.print.Shown.{Shown}
 use Rattle.script.specs.declared.Bench.{Bench}
-use Rattle.script.specs.declared.Ran.{Ran}
 
 module _ (b : Bench) (m s line out : List ℕ) (h : 160 ≤ length out) (l : Line) (el : l ≡ parse line) where
   pub runs-memory : (r : List ℕ) → r ≡ answered-memory (b .opened) (b .chip) m s l → r ≡ ran-memory b m s line out

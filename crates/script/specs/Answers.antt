@@ -13,17 +13,18 @@ use Rattle.chip.specs.Host as host
 use Rattle.chip.specs.declared.Chip.{Chip}
 use Rattle.chip.specs.declared.Told.{Told}
 use Rattle.chip.specs.declared.Word.{Word}
-use Rattle.script.specs.declared.line.Line.{Line}
-use Rattle.script.specs.declared.line.Line.the-variants.{Malformed, Open, Plain, Look, Take, Disc}
-use Rattle.script.specs.declared.line.Call.{Call}
-use Rattle.script.specs.declared.line.Call.the-variants.{Read, Write, Block, Window, Expect, Packet, Reset, Command, Send, Status, Srst}
+use Rattle.syntax.specs.declared.line.Line.{Line}
+use Rattle.syntax.specs.declared.line.Line.the-variants.{Malformed, Open, Plain, Look, Take, Disc}
+use Rattle.syntax.specs.declared.line.Call.{Call}
+use Rattle.syntax.specs.declared.line.Call.the-variants.{Read, Write, Block, Window, Expect, Packet, Reset, Command, Send, Status, Srst}
 use Rattle.script.specs.declared.call.Answer.{Answer}
-use Rattle.script.specs.declared.print.Shown.{Shown}
+use Rattle.syntax.specs.declared.print.Shown.{Shown}
 
 -- a refusal: its number, out 0, and the chip there was
 abbrev pub refused : Bool → Chip → ℕ → Answer
 refused o c number = record { opened = o; chip = c; number = number; out = 0 }
 
+-- the chip's own answer
 abbrev pub of-told : Told → Answer
 of-told t = record { opened = true; chip = t .chip; number = t .reply .number; out = t .reply .result }
 
@@ -48,10 +49,11 @@ plain c (Send w) = host.packet-sent c w
 plain c Status = host.status-read c
 plain c Srst = host.soft-reset c
 
--- the host word's number and value
+-- for a private contract: a refusal of the host word, passed on
 abbrev pub word-refused : Chip → Word → Answer
 word-refused c w = refused true c (host.word-number w)
 
+-- the host word: the chip after it, its number and its value
 unfoldable pub word : Chip → List ℕ → Answer
 word c ring =
     record {
@@ -76,18 +78,20 @@ disc-number s a byte =
     else if ltb 255 byte then 3
     else seal-reply (unsealed byte) a .number
 
--- the buffer that it leaves: a fill above 255 changes no byte
+-- the buffer that it leaves: a fill above 255 changes no byte, a bad address leaves the unsealed bytes
 unfoldable pub disc-buffer : List ℕ → Address → ℕ → List ℕ
 disc-buffer s a byte =
     if not (eqb (length s) 2352) then s
     else if ltb 255 byte then s
     else seal-sector (unsealed byte) a
 
+-- a sector line's answer: that number, or where it is 0 the chip's
 unfoldable pub disc : Chip → List ℕ → List ℕ → Address → ℕ → Answer
 disc c ring s a byte =
     if eqb (disc-number s a byte) 0 then of-told (calls.sector-told c ring (disc-buffer s a byte))
     else refused true c (disc-number s a byte)
 
+-- and the ring that it leaves
 unfoldable pub disc-ring : Chip → List ℕ → List ℕ → Address → ℕ → List ℕ
 disc-ring c ring s a byte =
     if eqb (disc-number s a byte) 0 then calls.sector-ring c ring (disc-buffer s a byte)
@@ -111,7 +115,7 @@ called-ring c ring s Look = ring
 called-ring c ring s Take = ring
 called-ring c ring s (Disc a byte) = disc-ring c ring s a byte
 
--- and the buffer
+-- and only a sector changes the buffer
 unfoldable pub called-buffer : List ℕ → Line → List ℕ
 called-buffer s Malformed = s
 called-buffer s (Open n) = s
@@ -133,16 +137,19 @@ closed c (Disc a byte) = refused false c 5
 abbrev pub size : Chip → ℕ
 size c = c .place .n * 2560
 
+-- the answer, with a chip open and with none
 unfoldable pub answered : Bool → Chip → List ℕ → List ℕ → Line → Answer
 answered o c m s line =
     if not o then closed c line
     else called c (take (size c) m) s line
 
+-- the memory that it leaves: no byte behind the ring is changed
 unfoldable pub answered-memory : Bool → Chip → List ℕ → List ℕ → Line → List ℕ
 answered-memory o c m s line =
     if not o then m
     else called-ring c (take (size c) m) s line ++ drop (size c) m
 
+-- and the buffer
 unfoldable pub answered-buffer : Bool → List ℕ → Line → List ℕ
 answered-buffer o s line =
     if not o then s

@@ -1,4 +1,4 @@
--- The bench: what a line does and prints (paper 01, "Bench cases"). Assumes nothing.
+-- The bench: what a line does and prints (paper 01, "Bench cases"; docs/DECISIONS.md, "Bench"). Assumes nothing.
 use Prim.Native.Nat.{ℕ, _+_, _%_, _^_}
 use mathlib.Core.Bool.{false}
 use mathlib.Core.List.{List, _++_}
@@ -6,9 +6,9 @@ use lib.Dec.{ltb}
 use lib.ListN.{length, drop}
 use Rattle.laws.specs.Choice.{if_then_else_}
 use Rattle.chip.specs.Chip.{opened}
-use Rattle.script.specs.Grammar.{parse}
+use Rattle.syntax.specs.Grammar.{parse}
 use Rattle.script.specs.Answers.{answered, answered-memory, answered-buffer, shown}
-use Rattle.script.specs.Print.{printed}
+use Rattle.syntax.specs.Print.{printed}
 use Rattle.script.specs.declared.call.Answer.{Answer}
 use Rattle.script.specs.declared.Bench.{Bench}
 use Rattle.script.specs.declared.Ran.{Ran}
@@ -39,17 +39,19 @@ ran b m s line out =
     if ltb (length out) 160 then record { bench = b; size = 0 }
     else record { bench = after (reply b m s line) (count b); size = length (text b m s line) }
 
+-- the memory that it leaves
 unfoldable pub ran-memory : Bench → List ℕ → List ℕ → List ℕ → List ℕ → List ℕ
 ran-memory b m s line out =
     if ltb (length out) 160 then m
     else answered-memory (b .opened) (b .chip) m s (parse line)
 
+-- and the sector buffer
 unfoldable pub ran-buffer : Bench → List ℕ → List ℕ → List ℕ → List ℕ
 ran-buffer b s line out =
     if ltb (length out) 160 then s
     else answered-buffer (b .opened) s (parse line)
 
--- the line, then what stood there
+-- the room after it: the printed line, then the bytes that stood there
 unfoldable pub ran-out : Bench → List ℕ → List ℕ → List ℕ → List ℕ → List ℕ
 ran-out b m s line out =
     if ltb (length out) 160 then out

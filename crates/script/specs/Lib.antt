@@ -1,6 +1,4 @@
--- The bench's definitions: the grammar of a line, what it answers, the line printed, and the three together.
-pub mod Forms
-pub mod Grammar
-pub mod Print
+-- The bench's definitions: what a call answers, what a line does and prints, and the lines of a text.
 pub mod Answers
 pub mod Bench
+pub mod Feed

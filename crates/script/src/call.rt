@@ -1,13 +1,13 @@
 // What the bench answers to a call: the chip's answer, with the host word and the look as numbers.
 use crate::fill::unsealed;
-use crate::line::Call;
-use crate::line::Line;
-use crate::print::Shown;
 use chip::Chip;
 use chip::Told;
 use chip::Word;
 use sector::Address;
-ghost use Prim.Native.Nat.{min};
+use slices::least;
+use syntax::line::Call;
+use syntax::line::Line;
+use syntax::print::Shown;
 ghost use mathlib.Core.Path.{_≡_};
 ghost use Rattle.script.specs.Answers.{refused, of-told, opening, plain, word, word-refused, look, disc, disc-ring, disc-buffer, called, called-ring, called-buffer, closed, answered, answered-memory, answered-buffer, shown};
 
@@ -36,6 +36,7 @@ pub(crate) fn shown(answer: Answer, lines: u64) -> Shown
     }
 }
 
+// A refusal: its number, and 0 as the result.
 fn refused(opened: bool, chip: Chip, number: u8) -> Answer
     ensures { λ r. ⌜ r ≡ refused opened chip number ⌝ }
 {
@@ -47,6 +48,7 @@ fn refused(opened: bool, chip: Chip, number: u8) -> Answer
     }
 }
 
+// The chip's own answer.
 fn told(t: Told) -> Answer
     ensures { λ r. ⌜ r ≡ of-told t ⌝ }
 {
@@ -94,7 +96,7 @@ fn plain(chip: Chip, call: Call) -> Told
     }
 }
 
-// A refusal of the host word, passed on.
+// A refusal of the host word, passed on. `host_word` takes a word that is handed over before this.
 fn word_refused(chip: Chip, word: Word) -> Answer
     ensures { λ r. ⌜ r ≡ word-refused chip word ⌝ }
 {
@@ -104,6 +106,7 @@ fn word_refused(chip: Chip, word: Word) -> Answer
     }
 }
 
+// The next host word, printed as a number.
 fn host_word(chip: Chip, ring: &[u8]) -> Answer
     ensures { λ r. ⌜ r ≡ word chip (now (ring .entry)) ⌝ }
 {
@@ -184,14 +187,14 @@ fn closed(chip: Chip, line: Line) -> Answer
     }
 }
 
-fn least(a: usize, b: usize) -> usize
-    ensures { λ r. ⌜ r ≡ min a b ⌝ }
-{
-    if a < b { a } else { b }
-}
-
 // The ring of the open chip is the start of the lent memory, as long as its N blocks; the chip itself refuses one that is shorter.
-pub(crate) fn run(opened: bool, chip: Chip, memory: &mut [u8], sector: &mut [u8], line: Line) -> Answer
+pub(crate) fn run(
+    opened: bool,
+    chip: Chip,
+    memory: &mut [u8],
+    sector: &mut [u8],
+    line: Line,
+) -> Answer
     ensures told { λ r. ⌜ r ≡ answered opened chip (now (memory .entry)) (now (sector .entry)) line ⌝ }
     ensures memory { λ _. ⌜ now (memory .exit) ≡ answered-memory opened chip (now (memory .entry)) (now (sector .entry)) line ⌝ }
     ensures buffer { λ _. ⌜ now (sector .exit) ≡ answered-buffer opened (now (sector .entry)) line ⌝ }

@@ -1,13 +1,12 @@
-// The bench: a line of input, given to the chip that is open, and the line that is printed (paper 01, "Bench cases").
+// The bench: a line of input, given to the chip that is open, and the line that is printed; and the lines of a text, one after the other
+// (paper 01, "Bench cases").
 mod call;
-mod decimal;
 mod fill;
-mod form;
-mod line;
-mod numbers;
-mod print;
+mod lines;
 
 use chip::Chip;
+pub use lines::Fed;
+pub use lines::feed;
 ghost use Prim.Native.Nat.{_≤_};
 ghost use mathlib.Core.Path.{_≡_};
 ghost use Rattle.script.specs.Bench.{started, ran, ran-memory, ran-buffer, ran-out};
@@ -44,8 +43,8 @@ impl Bench {
     }
 
     // Runs one line, given without its end, and puts the line to print at the start of `out`; with less room than `ROOM` nothing is done.
-    // The memory is the ring's, the sector a buffer of 2,352 bytes.
-    // Ruled out: one that answers a line before the chip is open, and one that prints the counters of before the call.
+    // The ring is the start of the memory; the sector is a buffer of 2,352 bytes, in which a sector line seals.
+    // Ruled out: one that gives the chip a call before an accepted opening, and one that prints the counters as they were before the call.
     pub fn run(self, memory: &mut [u8], sector: &mut [u8], line: &[u8], out: &mut [u8]) -> Ran
         ensures told { λ r. ⌜ r ≡ ran self (now (memory .entry)) (now (sector .entry)) (now (line .entry)) (now (out .entry)) ⌝ }
         ensures memory { λ _. ⌜ now (memory .exit) ≡ ran-memory self (now (memory .entry)) (now (sector .entry)) (now (line .entry)) (now (out .entry)) ⌝ }
@@ -59,11 +58,11 @@ impl Bench {
                 size: 0,
             };
         }
-        let parsed = line::parse(line);
+        let parsed = syntax::line::parse(line);
         let chip = self.chip;
         let answer = call::run(self.opened, chip, memory, sector, parsed);
         let n = std::num::wrapping_add_u64(self.lines, 1);
-        let size = print::print(out, call::shown(answer, n));
+        let size = syntax::print::print(out, call::shown(answer, n));
         let next = answer.chip;
         Ran {
             bench: Bench {

@@ -1,9 +1,11 @@
-// Slices of bytes: what is not about CD-ROMs.
+// Slices of bytes and their lengths: what is not about CD-ROMs.
 ghost use mathlib.Core.Path.{_≡_};
+ghost use Prim.Native.Nat.{min};
 ghost use lib.ListN.{length, replicate};
 ghost use Rattle.laws.specs.Same.{same};
 
-// Two slices hold the same bytes.
+// Whether two slices hold the same bytes.
+// Ruled out: one that compares the lengths alone, and one that compares no further than the shorter slice.
 pub fn equal(a: &[u8], b: &[u8]) -> bool
     ensures { λ r. ⌜ r ≡ same (now (a .entry)) (now (b .entry)) ⌝ }
 {
@@ -20,7 +22,8 @@ pub fn equal(a: &[u8], b: &[u8]) -> bool
     true
 }
 
-// Every byte becomes the one given.
+// Makes every byte the one given.
+// Ruled out: one that leaves the last byte as it was, and one that writes another byte.
 pub fn fill(bytes: &mut [u8], byte: u8)
     ensures { λ _. ⌜ now (bytes .exit) ≡ replicate (length (now (bytes .entry))) byte ⌝ }
 {
@@ -29,4 +32,12 @@ pub fn fill(bytes: &mut [u8], byte: u8)
         bytes[i] = byte;
         i += 1;
     }
+}
+
+// The lesser of two lengths.
+// Ruled out: one that gives the greater, and one that gives the first.
+pub fn least(a: usize, b: usize) -> usize
+    ensures { λ r. ⌜ r ≡ min a b ⌝ }
+{
+    if a < b { a } else { b }
 }

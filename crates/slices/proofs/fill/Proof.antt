@@ -1,13 +1,12 @@
--- `slices::fill` meets its contract. Assumes nothing.
+-- `slices::fill` meets its contract. The loop's invariant: the bytes before `i` are the given one, and the length is kept.
+-- Assumes nothing.
+use mathlib.Core.Path.{_≡_, refl, sym}
 use Prim.Native.Nat.{_≤_, _<_, _-_}
-use mathlib.Core.Path.{_≡_, refl, sym, ap, _∙_}
 use native.Mathlib.Omega.{arith}
 use lib.ListN.{length, take, replicate, length-replicate, length-set, getD-replicate}
 use Rattle.laws.proofs.Grow.{grow, grown}
 use Rattle.slices.proofs.fill.Statement.{statement}
 use Rattle.slices.proofs.fill.Tie as tie
-use Rattle.slices.proofs.fill.Reads as reads
-use Rattle.slices.proofs.fill.Lts as lts
 
 abbrev Inv-loop : tie.InvT-loop
 Inv-loop bytes₀ byte i₀ bytes i = (i ≤ length bytes₀) × (take i bytes ≡ take i (replicate (length bytes₀) byte)) × (length bytes ≡ length bytes₀)
@@ -28,13 +27,26 @@ loop-less : tie.Need-loop-less Inv-loop μ-loop
 loop-less c = omega arith
 
 loop-again : tie.Need-loop-again Inv-loop μ-loop
-loop-again c = let h : c .before .loop .i < length (c .before .loop .bytes) = omega arith in let k : c .before .loop .i < length (c .before .before .args .bytes .now) = omega arith in ((omega arith), grow (replicate (length (c .before .before .args .bytes .now)) (c .before .before .args .byte)) (c .before .loop .bytes) (c .before .loop .i) (c .before .before .args .byte) h (simp length-replicate k) (c .before .loop .inv .1) (sym (getD-replicate _ _ _ 0 k)), simp length-set (c .before .loop .inv .2))
+loop-again c =
+    let a = c .before .before .args in
+    let l = c .before .loop in
+    let h : l .i < length (l .bytes) = omega arith in
+    let k : l .i < length (a .bytes .now) = omega arith in (
+      omega arith,
+      grow (replicate (length (a .bytes .now)) (a .byte)) (l .bytes) (l .i) (a .byte) h (simp length-replicate k) (l .inv .1)
+          (sym (getD-replicate _ _ _ 0 k)),
+      simp length-set (l .inv .2),
+    )
 
 same-length : tie.Need-same-length Inv-loop μ-loop
 same-length c = omega arith
 
 returns : tie.Need-returns Inv-loop μ-loop
-returns c = let e : c .before .loop .i ≡ length (c .before .before .args .bytes .now) = omega arith in grown (replicate (length (c .before .before .args .bytes .now)) (c .before .before .args .byte)) (c .before .loop .bytes) (length (c .before .before .args .bytes .now)) (c .before .loop .inv .2) (length-replicate _ _) (rw e at (c .before .loop .inv .1))
+returns c =
+    let a = c .before .before .args in
+    let l = c .before .loop in
+    let e : l .i ≡ length (a .bytes .now) = omega arith in
+    grown (replicate (length (a .bytes .now)) (a .byte)) (l .bytes) (length (a .bytes .now)) (l .inv .2) (length-replicate _ _) (rw e at (l .inv .1))
 
 pub fill-spec : {M : Type 1} → statement M
 fill-spec =

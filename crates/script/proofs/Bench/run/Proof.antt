@@ -1,60 +1,68 @@
-use Rattle.script.proofs.Running.{runs, runs-memory, runs-buffer, runs-out}
-use Rattle.script.specs.Bench.{ran, ran-memory, ran-buffer, ran-out}
+-- `script::Bench::run` meets its contract. Assumes nothing.
+use mathlib.Core.Path.{sym}
 use native.Mathlib.Omega.{arith}
 use borrow.Author.Tests.{lt-ltb}
-use Rattle.laws.proofs.Choice.{if-true, if-false}
-use mathlib.Core.Path.{_≡_, refl, sym, ap, _∙_}
+use Rattle.laws.proofs.Choice.{if-true}
+use Rattle.script.specs.Bench.{ran, ran-memory, ran-buffer, ran-out}
+use Rattle.script.proofs.Running.{runs, runs-memory, runs-buffer, runs-out}
 use borrow.Author.Needs.{needs}
 use Rattle.script.proofs.Bench.run.Statement.{statement}
 use Rattle.script.proofs.Bench.run.Tie as tie
-use Rattle.script.proofs.Bench.run.Reads as reads
-use Rattle.script.proofs.Bench.run.Lts as lts
-use Rattle.script.proofs.call.run.Reads as run-reads
-use Rattle.script.proofs.call.shown.Reads as shown-reads
-use Rattle.script.proofs.line.parse.Reads as parse-reads
-use Rattle.script.proofs.print.print.Reads as print-reads
-use Rattle.std.proofs.num.wrapping_add_u64.Reads as wrapping-add-u64-reads
 
--- src/lib.rt:58:13
 returns : tie.Need-returns
 unfolding ran ran-memory ran-buffer ran-out
-returns c = (sym (if-true _ _ _ (lt-ltb _ _ (c .if1 .taken))), (sym (if-true _ _ _ (lt-ltb _ _ (c .if1 .taken))), (sym (if-true _ _ _ (lt-ltb _ _ (c .if1 .taken))), (sym (if-true _ _ _ (lt-ltb _ _ (c .if1 .taken))), omega arith))))
+returns c =
+    let t = lt-ltb _ _ (c .if1 .taken) in
+    (sym (if-true _ _ _ t), (sym (if-true _ _ _ t), (sym (if-true _ _ _ t), (sym (if-true _ _ _ t), omega arith))))
 
--- src/lib.rt:63:13
 parse-requires : tie.Need-parse-requires
 parse-requires c κs = search needs
 
--- src/lib.rt:65:13
 run-requires : tie.Need-run-requires
 run-requires c κs = search needs
 
--- src/lib.rt:66:13
 wrapping-add-u64-requires : tie.Need-wrapping-add-u64-requires
 wrapping-add-u64-requires c κs = search needs
 
--- src/lib.rt:67:38
 shown-requires : tie.Need-shown-requires
 shown-requires c κs = search needs
 
--- src/lib.rt:67:13
 print-requires : tie.Need-print-requires
 print-requires c κs = search needs
 
--- src/lib.rt:50:5
 same-length : tie.Need-same-length
 same-length c = search needs
 
--- src/lib.rt:50:5
 same-length-2 : tie.Need-same-length-2
 same-length-2 c = search needs
 
--- src/lib.rt:50:5
 same-length-3 : tie.Need-same-length-3
 same-length-3 c = search needs
 
--- src/lib.rt:50:5
 returns-2 : tie.Need-returns-2
-returns-2 c = (runs (c .before .before .before .before .before .before .before .before .before .before .before .before .before .before .before .before .before .before .before .before .before .args .self) (c .before .before .before .before .before .before .before .before .before .before .before .before .before .before .before .before .before .before .before .before .before .args .memory .now) (c .before .before .before .before .before .before .before .before .before .before .before .before .before .before .before .before .before .before .before .before .before .args .sector .now) (c .before .before .before .before .before .before .before .before .before .before .before .before .before .before .before .before .before .before .before .before .before .args .line .now) (c .before .before .before .before .before .before .before .before .before .before .before .before .before .before .before .before .before .before .before .before .before .args .out .now) (c .before .before .before .before .before .before .before .before .before .before .before .before .before .before .before .before .if1 .left) _ (c .before .before .before .before .before .before .before .before .before .before .before .before .before .before .before .parse .ensures) (c .before .before .before .before .before .before .before .before .before .before .before .run .result) (c .before .before .before .before .before .before .wrapping-add-u64 .result) (c .before .before .before .before .shown .result) (c .before .before .before .before .before .before .before .before .before .before .before .run .ensures .0) (c .before .before .before .before .before .before .wrapping-add-u64 .ensures) (c .before .before .before .before .shown .ensures) _ (c .before .before .before .print .ensures .0), (runs-memory (c .before .before .before .before .before .before .before .before .before .before .before .before .before .before .before .before .before .before .before .before .before .args .self) (c .before .before .before .before .before .before .before .before .before .before .before .before .before .before .before .before .before .before .before .before .before .args .memory .now) (c .before .before .before .before .before .before .before .before .before .before .before .before .before .before .before .before .before .before .before .before .before .args .sector .now) (c .before .before .before .before .before .before .before .before .before .before .before .before .before .before .before .before .before .before .before .before .before .args .line .now) (c .before .before .before .before .before .before .before .before .before .before .before .before .before .before .before .before .before .before .before .before .before .args .out .now) (c .before .before .before .before .before .before .before .before .before .before .before .before .before .before .before .before .if1 .left) _ (c .before .before .before .before .before .before .before .before .before .before .before .before .before .before .before .parse .ensures) _ (c .before .before .before .before .before .before .before .before .before .before .before .run .ensures .1 .0), (runs-buffer (c .before .before .before .before .before .before .before .before .before .before .before .before .before .before .before .before .before .before .before .before .before .args .self) (c .before .before .before .before .before .before .before .before .before .before .before .before .before .before .before .before .before .before .before .before .before .args .memory .now) (c .before .before .before .before .before .before .before .before .before .before .before .before .before .before .before .before .before .before .before .before .before .args .sector .now) (c .before .before .before .before .before .before .before .before .before .before .before .before .before .before .before .before .before .before .before .before .before .args .line .now) (c .before .before .before .before .before .before .before .before .before .before .before .before .before .before .before .before .before .before .before .before .before .args .out .now) (c .before .before .before .before .before .before .before .before .before .before .before .before .before .before .before .before .if1 .left) _ (c .before .before .before .before .before .before .before .before .before .before .before .before .before .before .before .parse .ensures) _ (c .before .before .before .before .before .before .before .before .before .before .before .run .ensures .1 .1), (runs-out (c .before .before .before .before .before .before .before .before .before .before .before .before .before .before .before .before .before .before .before .before .before .args .self) (c .before .before .before .before .before .before .before .before .before .before .before .before .before .before .before .before .before .before .before .before .before .args .memory .now) (c .before .before .before .before .before .before .before .before .before .before .before .before .before .before .before .before .before .before .before .before .before .args .sector .now) (c .before .before .before .before .before .before .before .before .before .before .before .before .before .before .before .before .before .before .before .before .before .args .line .now) (c .before .before .before .before .before .before .before .before .before .before .before .before .before .before .before .before .before .before .before .before .before .args .out .now) (c .before .before .before .before .before .before .before .before .before .before .before .before .before .before .before .before .if1 .left) _ (c .before .before .before .before .before .before .before .before .before .before .before .before .before .before .before .parse .ensures) (c .before .before .before .before .before .before .before .before .before .before .before .run .result) (c .before .before .before .before .before .before .wrapping-add-u64 .result) (c .before .before .before .before .shown .result) (c .before .before .before .before .before .before .before .before .before .before .before .run .ensures .0) (c .before .before .before .before .before .before .wrapping-add-u64 .ensures) (c .before .before .before .before .shown .ensures) _ (c .before .before .before .print .ensures .1 .0), c .before .before .before .print .ensures .1 .1))))
+returns-2 c =
+    let back = c .before .before .before .before .before .before .before .before .before .before in
+    let a = back .before .before .before .before .before .before .before .before .before .before .before .args in
+    let if1 = back .before .before .before .before .before .before .if1 in
+    let parse = back .before .before .before .before .before .parse in
+    let run = back .before .run in
+    let add = c .before .before .before .before .before .before .wrapping-add-u64 in
+    let shown = c .before .before .before .before .shown in
+    let print = c .before .before .before .print in (
+      runs (a .self) (a .memory .now) (a .sector .now) (a .line .now) (a .out .now) (if1 .left) _ (parse .ensures) (run .result)
+          (add .result) (shown .result) (run .ensures .0) (add .ensures) (shown .ensures) _ (print .ensures .0),
+      (
+        runs-memory (a .self) (a .memory .now) (a .sector .now) (a .line .now) (a .out .now) (if1 .left) _ (parse .ensures) _ (run .ensures .1 .0),
+        (
+          runs-buffer (a .self) (a .memory .now) (a .sector .now) (a .line .now) (a .out .now) (if1 .left) _ (parse .ensures) _ (run .ensures .1 .1),
+          (
+            runs-out (a .self) (a .memory .now) (a .sector .now) (a .line .now) (a .out .now) (if1 .left) _ (parse .ensures) (run .result)
+                (add .result) (shown .result) (run .ensures .0) (add .ensures) (shown .ensures) _ (print .ensures .1 .0),
+            print .ensures .1 .1,
+          ),
+        ),
+      ),
+    )
 
 pub run-spec : {M : Type 1} → statement M
 run-spec =

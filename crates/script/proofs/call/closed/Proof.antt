@@ -1,87 +1,66 @@
+-- `script::call::closed` meets its contract. Assumes nothing.
+use mathlib.Core.Path.{sym, ap, _∙_}
 use Rattle.script.specs.Answers.{closed}
-use mathlib.Core.Path.{_≡_, refl, sym, ap, _∙_}
 use borrow.Author.Needs.{needs}
 use Rattle.script.proofs.call.closed.Statement.{statement}
 use Rattle.script.proofs.call.closed.Tie as tie
-use Rattle.script.proofs.call.closed.Reads as reads
-use Rattle.script.proofs.call.closed.Lts as lts
-use Rattle.script.proofs.call.open.Reads as open-reads
-use Rattle.script.proofs.call.refused.Reads as refused-reads
 
--- src/call.rt:160:28
 enum-told : tie.Need-enum-told
 enum-told c = search needs
 
--- src/call.rt:160:28
 refused-requires : tie.Need-refused-requires
 refused-requires c κs = search needs
 
--- src/call.rt:161:20
 enum-known-line : tie.Need-enum-known-line
 enum-known-line c = search needs
 
--- src/call.rt:161:26
 open-requires : tie.Need-open-requires
 open-requires c κs = search needs
 
--- src/call.rt:162:27
 enum-told-2 : tie.Need-enum-told-2
 enum-told-2 c = search needs
 
--- src/call.rt:162:27
 refused-requires-2 : tie.Need-refused-requires-2
 refused-requires-2 c κs = search needs
 
--- src/call.rt:163:23
 enum-told-3 : tie.Need-enum-told-3
 enum-told-3 c = search needs
 
--- src/call.rt:163:23
 refused-requires-3 : tie.Need-refused-requires-3
 refused-requires-3 c κs = search needs
 
--- src/call.rt:164:23
 enum-told-4 : tie.Need-enum-told-4
 enum-told-4 c = search needs
 
--- src/call.rt:164:23
 refused-requires-4 : tie.Need-refused-requires-4
 refused-requires-4 c κs = search needs
 
--- src/call.rt:165:29
 enum-told-5 : tie.Need-enum-told-5
 enum-told-5 c = search needs
 
--- src/call.rt:165:29
 refused-requires-5 : tie.Need-refused-requires-5
 refused-requires-5 c κs = search needs
 
--- src/call.rt:156:1
 returns : tie.Need-returns
 unfolding closed
 returns c = c .refused .ensures ∙ ap (closed (c .before .before .before .args .chip)) (sym (c .before .enum-told .given .1))
 
--- src/call.rt:156:1
 returns-2 : tie.Need-returns-2
 unfolding closed
 returns-2 c = c .«open» .ensures ∙ ap (closed (c .before .before .before .before .args .chip)) (sym (c .before .before .line .given .1))
 
--- src/call.rt:156:1
 returns-3 : tie.Need-returns-3
 unfolding closed
 returns-3 c = c .refused2 .ensures ∙ ap (closed (c .before .before .before .args .chip)) (sym (c .before .enum-told2 .given .1))
 
--- src/call.rt:156:1
 returns-4 : tie.Need-returns-4
 unfolding closed
 returns-4 c = c .refused3 .ensures ∙ ap (closed (c .before .before .before .args .chip)) (sym (c .before .enum-told3 .given .1))
 
--- src/call.rt:156:1
 returns-5 : tie.Need-returns-5
 unfolding closed
 returns-5 c = c .refused4 .ensures ∙ ap (closed (c .before .before .before .args .chip)) (sym (c .before .enum-told4 .given .1))
 
--- src/call.rt:156:1
 returns-6 : tie.Need-returns-6
 unfolding closed
 returns-6 c = c .refused5 .ensures ∙ ap (closed (c .before .before .before .args .chip)) (sym (c .before .enum-told5 .given .1))

@@ -1,33 +1,25 @@
+-- `script::call::word_refused` meets its contract. Assumes nothing.
+use mathlib.Core.Path.{sym, ap, _∙_}
 use Rattle.script.specs.Answers.{word-refused}
-use mathlib.Core.Path.{_≡_, refl, sym, ap, _∙_}
 use borrow.Author.Needs.{needs}
 use Rattle.script.proofs.call.word_refused.Statement.{statement}
 use Rattle.script.proofs.call.word_refused.Tie as tie
-use Rattle.script.proofs.call.word_refused.Reads as reads
-use Rattle.script.proofs.call.word_refused.Lts as lts
-use Rattle.script.proofs.call.refused.Reads as refused-reads
 
--- src/call.rt:84:28
 enum-told : tie.Need-enum-told
 enum-told c = search needs
 
--- src/call.rt:84:28
 refused-requires : tie.Need-refused-requires
 refused-requires c κs = search needs
 
--- src/call.rt:85:23
 enum-known-word : tie.Need-enum-known-word
 enum-known-word c = search needs
 
--- src/call.rt:85:34
 refused-requires-2 : tie.Need-refused-requires-2
 refused-requires-2 c κs = search needs
 
--- src/call.rt:80:1
 returns : tie.Need-returns
 returns c = c .refused .ensures ∙ ap (word-refused (c .before .before .before .args .chip)) (sym (c .before .enum-told .given .1))
 
--- src/call.rt:80:1
 returns-2 : tie.Need-returns-2
 returns-2 c = c .refused2 .ensures ∙ ap (word-refused (c .before .before .before .before .args .chip)) (sym (c .before .before .word .given .1))
 

@@ -1,10 +1,10 @@
-/* Sectors of mode 1 (ECMA-130): sealing, opening, judging, and the error detection code.
+/* Sectors of mode 1 (ECMA-130): sealing, opening, judging, and the error detection code; and the bench over a text of calls.
  *
  * Link target/staticlib/libexports.a, which `rt staticlib exports` makes (x86-64 Linux). The calls keep no state, take no lock
  * and allocate nothing, and return for every input. docs/BENCHMARKS.md has the stack that each takes.
  *
- * The caller's part: the pointer is not null, even where the length is 0; it points to that many bytes; and nothing else
- * writes them during the call, nor reads them where the call writes. */
+ * The caller's part: a pointer is not null, even where the length is 0; it points to that many bytes; nothing else writes them
+ * during the call, nor reads them where the call writes; and the bytes of one call do not overlap. */
 #ifndef CDROM_H
 #define CDROM_H
 
@@ -44,6 +44,21 @@ uint32_t cdrom_judge(const uint8_t *sector, size_t length, uint16_t minute, uint
 
 /* The error detection code of any number of bytes; it is no answer, and never refused. */
 uint32_t cdrom_edc(const uint8_t *bytes, size_t length);
+
+/* The ring's memory for the bench's largest ring, 25 blocks; and what must be left of `out` for a line to be run, though an answer
+ * takes at most 152 bytes. */
+#define CDROM_RING_BYTES 64000
+#define CDROM_ANSWER_ROOM 160
+
+/* Runs the lines of a text (docs/BENCH.md) that have their newline, in order, from a bench where no chip is open, while `out` has room.
+ * The answers stand one behind the other at the front of `out`, each with its newline; the result is their length in bytes. The bytes
+ * behind them stay. A sector line makes its sector in `sector`, CDROM_SECTOR_BYTES long; no other line changes it or the memory. No
+ * chip is kept for the next call.
+ *
+ * Other lengths are taken too. Once a chip is open, a sector line is answered 1 with another length of `sector`; with a memory too
+ * short for the ring a word line is, and a sector line whose address and fill are in range. */
+size_t cdrom_bench(uint8_t *memory, size_t memory_length, uint8_t *sector, size_t sector_length, const uint8_t *text,
+                   size_t text_length, uint8_t *out, size_t out_length);
 
 #ifdef __cplusplus
 }

@@ -1,4 +1,4 @@
-//! The proved library of sectors, called from Rust: the declarations of
+//! The proved library of sectors and the bench, called from Rust: the declarations of
 //! `include/cdrom.h` and safe wrappers. Nothing checks the declarations
 //! against the archive but the tests.
 
@@ -9,6 +9,16 @@ pub mod raw {
         pub fn cdrom_open(sector: *mut u8, length: usize) -> u32;
         pub fn cdrom_judge(sector: *const u8, length: usize, minute: u16, second: u16, frame: u16) -> u32;
         pub fn cdrom_edc(bytes: *const u8, length: usize) -> u32;
+        pub fn cdrom_bench(
+            memory: *mut u8,
+            memory_length: usize,
+            sector: *mut u8,
+            sector_length: usize,
+            text: *const u8,
+            text_length: usize,
+            out: *mut u8,
+            out_length: usize,
+        ) -> usize;
     }
 }
 
@@ -66,6 +76,25 @@ pub fn judge(sector: &[u8], expected: Address) -> Result<Verdict, Refusal> {
 pub fn edc(bytes: &[u8]) -> u32 {
     // SAFETY: as in `judge`.
     unsafe { raw::cdrom_edc(bytes.as_ptr(), bytes.len()) }
+}
+
+/// Runs the lines of a text that have their newline, from a bench where no chip
+/// is open, while `out` has 160 bytes left, and gives the length of the answers
+/// at its front. The ring's memory is 64,000 bytes, the sector buffer 2,352.
+pub fn bench(memory: &mut [u8], sector: &mut [u8], text: &[u8], out: &mut [u8]) -> usize {
+    // SAFETY: as in `seal`, four times; slices that are lent to be changed overlap no other.
+    unsafe {
+        raw::cdrom_bench(
+            memory.as_mut_ptr(),
+            memory.len(),
+            sector.as_mut_ptr(),
+            sector.len(),
+            text.as_ptr(),
+            text.len(),
+            out.as_mut_ptr(),
+            out.len(),
+        )
+    }
 }
 
 /// Takes an answer apart: the reply number is the low byte, the result's

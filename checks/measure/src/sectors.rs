@@ -5,6 +5,8 @@ use ecma130::{edc_by_table, edc_sliced, EDC_START, SECTOR_BYTES};
 use std::cell::RefCell;
 use std::hint::black_box;
 
+const CALLS: u32 = 200;
+
 const OPEN: &str = "open 2,352 bytes";
 const EDC: &str = "EDC of 2,064 bytes";
 const OPEN_AND_JUDGE: &str = "memcpy, open and judge";
@@ -27,7 +29,7 @@ struct Bytes {
 pub fn print() {
     let bytes = Bytes::new();
     let mut rows = rows(&bytes);
-    let timings = time_all(&mut rows);
+    let timings = time_all(&mut rows, CALLS);
     println!("{:<28}{:<20}{:>8}{:>8}{:>12}", "ns a call", "", "best", "median", "to library");
     for (row, timing) in rows.iter().zip(&timings) {
         let library = rows.iter().position(|other| other.task == row.task && other.code == LIBRARY);

@@ -4,7 +4,6 @@
 use std::time::Instant;
 
 const ROUNDS: usize = 200;
-const CALLS: u32 = 200;
 
 /// A call to be timed: what is done, and by whose code.
 pub struct Row<'a> {
@@ -14,31 +13,43 @@ pub struct Row<'a> {
 }
 
 /// Nanoseconds a call, over the rounds.
+#[derive(Clone, Copy)]
 pub struct Timing {
     pub best: f64,
     pub median: f64,
+}
+
+impl Timing {
+    pub fn less(self, other: Timing) -> Timing {
+        Timing { best: self.best - other.best, median: self.median - other.median }
+    }
+
+    pub fn over(self, parts: usize) -> Timing {
+        Timing { best: self.best / parts as f64, median: self.median / parts as f64 }
+    }
 }
 
 pub fn row<'a>(task: &'static str, code: &'static str, call: impl FnMut() + 'a) -> Row<'a> {
     Row { task, code, call: Box::new(call) }
 }
 
-pub fn time_all(rows: &mut [Row]) -> Vec<Timing> {
+/// `calls` are the calls of a row in a round.
+pub fn time_all(rows: &mut [Row], calls: u32) -> Vec<Timing> {
     let mut rounds = vec![Vec::with_capacity(ROUNDS); rows.len()];
     for _ in 0..ROUNDS {
         for (row, times) in rows.iter_mut().zip(&mut rounds) {
-            times.push(time_round(&mut row.call));
+            times.push(time_round(&mut row.call, calls));
         }
     }
     rounds.into_iter().map(summary).collect()
 }
 
-fn time_round(call: &mut dyn FnMut()) -> f64 {
+fn time_round(call: &mut dyn FnMut(), calls: u32) -> f64 {
     let start = Instant::now();
-    for _ in 0..CALLS {
+    for _ in 0..calls {
         call();
     }
-    start.elapsed().as_nanos() as f64 / CALLS as f64
+    start.elapsed().as_nanos() as f64 / calls as f64
 }
 
 fn summary(mut times: Vec<f64>) -> Timing {

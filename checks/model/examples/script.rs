@@ -1,6 +1,5 @@
 //! Prints a random script, to time a bench program on: `script SEED LINES`.
 
-use model::{Bench, Writer};
 use std::io::{self, Write};
 
 fn main() -> io::Result<()> {
@@ -8,13 +7,5 @@ fn main() -> io::Result<()> {
     let [seed, lines] = numbers[..] else {
         return Err(io::Error::other("usage: script SEED LINES"));
     };
-    let (mut writer, mut bench) = (Writer::new(seed), Bench::new());
-    let mut output = io::BufWriter::new(io::stdout().lock());
-    for _ in 0..lines {
-        let line = writer.next_line(bench.chip());
-        bench.line(&line);
-        output.write_all(&line)?;
-        output.write_all(b"\n")?;
-    }
-    output.flush()
+    io::stdout().write_all(&model::random_script(seed, lines as usize))
 }

@@ -10,7 +10,7 @@ const MALFORMED: u16 = 2;
 pub struct Bench {
     lines: u64,
     chip: Option<Chip>,
-    ring: Vec<u8>,
+    memory: Vec<u8>,
 }
 
 impl Default for Bench {
@@ -21,7 +21,18 @@ impl Default for Bench {
 
 impl Bench {
     pub fn new() -> Bench {
-        Bench { lines: 0, chip: None, ring: vec![0; MAX_RING as usize * BLOCK_BYTES] }
+        Bench::over(vec![0; MAX_RING as usize * BLOCK_BYTES])
+    }
+
+    /// A bench over memory of any bytes; a ring that it is too short for can be
+    /// opened, but neither filled nor served.
+    pub fn over(memory: Vec<u8>) -> Bench {
+        Bench { lines: 0, chip: None, memory }
+    }
+
+    /// The memory as the last line left it. The open ring is its start.
+    pub fn into_memory(self) -> Vec<u8> {
+        self.memory
     }
 
     /// The chip as the last line left it, if one was ever opened.
@@ -50,7 +61,8 @@ impl Bench {
             return self.open(ring);
         }
         let chip = self.chip.as_mut().ok_or(Refusal::Switches)?;
-        let ring = &mut self.ring[..chip.blocks * BLOCK_BYTES];
+        let end = self.memory.len().min(chip.blocks * BLOCK_BYTES);
+        let ring = &mut self.memory[..end];
         match call {
             Call::Sector { address, fill } => chip.sector(ring, &sealed(address, fill)?),
             other => run_on(chip, ring, other),

@@ -14,4 +14,4 @@ pub use book::Book;
 pub use call::{parse, Call, MAX_LINE_BYTES};
 pub use chip::{Answer, Chip, Refusal, Transfer, Window, BLOCK_BYTES};
 pub use random::Random;
-pub use script::Writer;
+pub use script::{random_script, Writer};

@@ -2,6 +2,7 @@
 //! asks for is often possible: blind lines would hardly ever get as far as
 //! a transfer.
 
+use crate::bench::Bench;
 use crate::call::{Call, MAX_LINE_BYTES};
 use crate::chip::Chip;
 use crate::random::Random;
@@ -23,6 +24,19 @@ pub struct Writer {
     random: Random,
     /// Calls that belong together and go out one after another.
     plan: VecDeque<Call>,
+}
+
+/// So many lines of a writer beside a bench of its own, each with its newline.
+pub fn random_script(seed: u64, lines: usize) -> Vec<u8> {
+    let (mut writer, mut bench) = (Writer::new(seed), Bench::new());
+    let mut script = Vec::new();
+    for _ in 0..lines {
+        let line = writer.next_line(bench.chip());
+        bench.line(&line);
+        script.extend(line);
+        script.push(b'\n');
+    }
+    script
 }
 
 fn write(reg: u16, value: u16) -> Call {

@@ -1,4 +1,5 @@
--- Laws of the bench's definitions.
+-- Laws of the bench's definitions, and its claim.
 pub mod Answering
 pub mod Running
 pub mod Feeding
+pub mod Claims

@@ -1,4 +1,5 @@
--- The bench's definitions: what a call answers, what a line does and prints, and the lines of a text.
+-- The bench's definitions: what a call answers, what a line does and prints, the lines of a text, and the claim of a closed bench.
 pub mod Answers
 pub mod Bench
 pub mod Feed
+pub mod Claims

@@ -1,0 +1,38 @@
+/* Runs lines of the bench (docs/BENCH.md) through the library and prints their answers. From the repository's folder, after `rt staticlib exports`:
+ *
+ *   gcc -std=c11 -Wall -Wextra -Werror -O2 -Iinclude examples/lines.c target/staticlib/libexports.a -o target/lines && target/lines
+ *
+ * The exit status is 1 where the answers are not those that are expected. */
+#include <stdio.h>
+#include <string.h>
+
+#include "cdrom.h"
+
+static const char text[] =
+    "call=open ring=3\n"
+    "call=write reg=154 value=32\n"
+    "call=write reg=156 value=96\n"
+    "call=write reg=10 value=128\n"
+    "call=sector min=0 sec=2 frame=0 fill=65\n"
+    "call=sector min=0 sec=2 frame=5 fill=66\n"
+    "call=look me\n";
+
+static const char expected[] =
+    "n=1 answer=0 out=0 tcc=0 bufc=0 irq=0\n"
+    "n=2 answer=0 out=0 tcc=0 bufc=0 irq=0\n"
+    "n=3 answer=0 out=0 tcc=0 bufc=0 irq=0\n"
+    "n=4 answer=0 out=0 tcc=0 bufc=0 irq=0\n"
+    "n=5 answer=0 out=0 tcc=1 bufc=1 irq=0\n"
+    "n=6 answer=0 out=1 tcc=1 bufc=2 irq=0\n"
+    "n=7 answer=2 out=0 tcc=1 bufc=2 irq=0\n";
+
+int main(void)
+{
+    static uint8_t memory[CDROM_RING_BYTES];
+    static uint8_t sector[CDROM_SECTOR_BYTES];
+    uint8_t out[8 * CDROM_ANSWER_ROOM];
+
+    size_t size = cdrom_bench(memory, sizeof memory, sector, sizeof sector, (const uint8_t *)text, sizeof text - 1, out, sizeof out);
+    fwrite(out, 1, size, stdout);
+    return size != sizeof expected - 1 || memcmp(out, expected, size) != 0;
+}

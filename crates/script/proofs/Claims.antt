@@ -2,18 +2,18 @@
 use Prim.Native.Nat.{ℕ}
 use mathlib.Core.Path.{_≡_, refl, sym, ap, _∙_}
 use mathlib.Core.Bool.{Bool, true, false, not, true≢false}
-use mathlib.Core.List.{List}
+use mathlib.Core.List.{List, []}
 use lib.Dec.{ltb, eqb}
 use Rattle.laws.specs.Choice.{if_then_else_}
 use Rattle.laws.proofs.Choice.{if-true}
 use Rattle.chip.specs.Chip.{opened}
 use Rattle.chip.specs.declared.Chip.{Chip}
-use Rattle.syntax.specs.Grammar.{parse}
+use Rattle.syntax.specs.Grammar.{form, onward, bare, several, named, parse}
 use Rattle.syntax.specs.declared.line.Line.{Line}
 use Rattle.syntax.specs.declared.line.Line.the-variants.{Malformed, Open, Plain, Look, Take, Disc}
 use Rattle.script.specs.Answers.{answered, refused, of-told, opening, closed, shown}
 use Rattle.script.specs.Bench.{started, reply, count}
-use Rattle.script.specs.Claims.{ClosedClaim, zeros}
+use Rattle.script.specs.Claims.{Closed, ClosedClaim}
 use Rattle.script.specs.declared.Bench.{Bench}
 use Rattle.script.specs.declared.call.Answer.{Answer}
 
@@ -48,3 +48,11 @@ closed-claim b m s line k e =
     = q ∙ closed-refuses (b .chip) (parse line) (sym (ap (λ (a : Answer). a .opened) q) ∙ e) ∙ ap (λ (a : Answer). refused false (b .chip) (a .number)) (sym q) in
     let h : reply b m s line .chip ≡ started .chip = ap (λ (a : Answer). a .chip) r ∙ k .1 in
     ((e, h), ap (λ (a : Answer). shown a (count b)) r ∙ ap (λ (c : Chip). shown (refused false c (reply b m s line .number)) (count b)) (k .1))
+
+-- the claim's premises are met: a bench that was started is closed, and an empty line does not open it
+pub closed-started : Closed started
+closed-started = (refl, refl)
+
+pub closed-empty : (m s : List ℕ) → reply started m s [] .opened ≡ false
+unfolding answered closed parse named several bare form onward
+closed-empty m s = refl

@@ -45,8 +45,7 @@ uint32_t cdrom_judge(const uint8_t *sector, size_t length, uint16_t minute, uint
 /* The error detection code of any number of bytes; it is no answer, and never refused. */
 uint32_t cdrom_edc(const uint8_t *bytes, size_t length);
 
-/* The ring's memory for the bench's largest ring, 25 blocks; and what must be left of `out` for a line to be run, though an answer
- * takes at most 152 bytes. */
+/* The ring's memory for the bench's largest ring, 25 blocks; and what must be left of `out` for a line to be run: no answer is longer. */
 #define CDROM_RING_BYTES 64000
 #define CDROM_ANSWER_ROOM 160
 

@@ -22,6 +22,9 @@ pub mod raw {
     }
 }
 
+/// What must be left of the output for a line of the bench to be run; no answer is longer.
+pub const ANSWER_ROOM: usize = 160;
+
 const STAERR: u32 = 0x40;
 const HCEI: u32 = 0x01;
 
@@ -79,7 +82,7 @@ pub fn edc(bytes: &[u8]) -> u32 {
 }
 
 /// Runs the lines of a text that have their newline, from a bench where no chip
-/// is open, while `out` has 160 bytes left, and gives the length of the answers
+/// is open, while `out` has `ANSWER_ROOM` left, and gives the length of the answers
 /// at its front. The ring's memory is 64,000 bytes, the sector buffer 2,352.
 pub fn bench(memory: &mut [u8], sector: &mut [u8], text: &[u8], out: &mut [u8]) -> usize {
     // SAFETY: as in `seal`, four times; slices that are lent to be changed overlap no other.
@@ -129,6 +132,12 @@ mod tests {
         assert_eq!(result_of(3), Err(Refusal::BadAddress));
         assert_eq!(verdict_of(STAERR), Verdict { staerr: true, hcei: false });
         assert_eq!(verdict_of(HCEI), Verdict { staerr: false, hcei: true });
+    }
+
+    #[test]
+    fn the_header_has_the_same_room() {
+        let header = include_str!("../../../include/cdrom.h");
+        assert!(header.contains(&format!("#define CDROM_ANSWER_ROOM {ANSWER_ROOM}\n")));
     }
 
     #[test]

@@ -1,12 +1,11 @@
 //! The bench of the library against the model's, a text in each call: every
 //! byte of the answers, of the ring's memory and of the sector buffer.
 
+use cdrom::ANSWER_ROOM;
 use ecma130::{Address, EDC_START, SECTOR_BYTES, USER_START};
 use model::{parse, random_script, sealed, Bench, Call, Random, BLOCK_BYTES};
 
 const MEMORY_BYTES: usize = 25 * BLOCK_BYTES;
-/// What must be left of the output for a line to be run.
-const ROOM: usize = 160;
 /// Answers 1 and changes nothing.
 const REFUSED: &[u8] = b"call=open ring=0";
 
@@ -32,7 +31,7 @@ impl Lent {
         Lent {
             memory: random.bytes(MEMORY_BYTES),
             sector: random.bytes(SECTOR_BYTES),
-            out: random.bytes(ROOM * (lines + 1)),
+            out: random.bytes(ANSWER_ROOM * (lines + 1)),
         }
     }
 
@@ -45,7 +44,7 @@ impl Lent {
         let mut bench = Bench::over(std::mem::take(&mut self.memory));
         let mut size = 0;
         for line in ended_lines(text) {
-            if self.out.len() - size < ROOM {
+            if self.out.len() - size < ANSWER_ROOM {
                 break;
             }
             let opened = bench.chip().is_some();
@@ -162,19 +161,19 @@ fn an_empty_text_changes_nothing() {
     assert!(hold(&start, b"") == (start, 0));
 }
 
-/// Every size of output: lines are run while 160 bytes are left, and no byte
+/// Every size of output: lines are run while there is room for an answer, and no byte
 /// behind the answers is changed.
 #[test]
 fn room_for_some_of_the_answers() {
     let text = [DECODING, SECTOR, REST, DECODING, SECTOR, &random_script(301, 20)].concat();
     let mut start = Lent::stale(5, &text);
     let all = start.out.clone();
-    for room in 0..=all.len().min(1600) {
+    for room in 0..=all.len().min(10 * ANSWER_ROOM) {
         start.out = all[..room].to_vec();
         let (end, size) = hold(&start, &text);
         match room {
-            0..=159 => assert!(size == 0 && end == start, "{room} bytes"),
-            160 => assert_eq!(answers_of(&end, size), ["answer=0"]),
+            0..ANSWER_ROOM => assert!(size == 0 && end == start, "{room} bytes"),
+            ANSWER_ROOM => assert_eq!(answers_of(&end, size), ["answer=0"]),
             _ => assert!(size > 0 && size <= room),
         }
     }

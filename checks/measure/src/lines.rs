@@ -4,6 +4,7 @@
 //! status reads stand in their place also reading and printing a line.
 
 use crate::timing::{row, time_all, Timing};
+use cdrom::ANSWER_ROOM;
 use ecma130::SECTOR_BYTES;
 use model::{Bench, BLOCK_BYTES};
 use std::cell::RefCell;
@@ -13,8 +14,6 @@ const CALLS: u32 = 10;
 /// A ring of 25 blocks holds 24 sectors.
 const SECTORS: usize = 24;
 const WORDS: usize = 1024;
-/// What must be left of the output for a line to be run.
-pub const ROOM: usize = 160;
 
 const TEXT: &str = "a text";
 const LIBRARY: &str = "library";
@@ -71,7 +70,7 @@ fn figures(times: &[Timing]) -> [(&'static str, Timing); 4] {
 impl Buffers {
     fn new() -> Buffers {
         let lines = SETUP.len() + 2 + WORDS;
-        Buffers { memory: vec![0; 25 * BLOCK_BYTES], sector: [0; SECTOR_BYTES], out: vec![0; lines * ROOM] }
+        Buffers { memory: vec![0; 25 * BLOCK_BYTES], sector: [0; SECTOR_BYTES], out: vec![0; lines * ANSWER_ROOM] }
     }
 
     fn library(&mut self, text: &str) {

@@ -2,8 +2,7 @@
 //! that was painted before, and the bytes from the top to the lowest changed
 //! one are counted, the return address and arguments on the stack among them.
 
-use crate::lines::ROOM;
-use cdrom::{judge, open, raw, seal, Address, Verdict};
+use cdrom::{judge, open, raw, seal, Address, Verdict, ANSWER_ROOM};
 use ecma130::SECTOR_BYTES;
 use model::{random_script, BLOCK_BYTES};
 use std::arch::asm;
@@ -49,7 +48,7 @@ fn of_sector_call(function: Function) -> usize {
 fn of_bench() -> usize {
     let text = random_script(1, SCRIPT_LINES);
     let (mut memory, mut sector) = (vec![0; 25 * BLOCK_BYTES], vec![0; SECTOR_BYTES]);
-    let mut out = vec![0; SCRIPT_LINES * ROOM];
+    let mut out = vec![0; SCRIPT_LINES * ANSWER_ROOM];
     let touched = PAINTS.map(|paint| {
         let [memory, sector, out] =
             [&mut memory, &mut sector, &mut out].map(|b| [b.as_mut_ptr() as u64, b.len() as u64]);

@@ -2,12 +2,13 @@
 // that each is run once and in order, is the library's, `script`; this program reads and writes. Its contracts keep the buffers' bounds.
 use libc::STDIN_FILENO;
 use libc::STDOUT_FILENO;
+use numbers::least_length;
 use script::Bench;
 use script::feed;
-use slices::least;
 ghost use Prim.Native.Nat.{_+_, _≤_};
 ghost use mathlib.Core.Path.{_≡_};
 ghost use lib.ListN.{length};
+ghost use Rattle.syntax.specs.Print.{room};
 
 // A line has at most 80 bytes; of a longer one 81 are kept, so that it stays too long and never fills the buffer.
 const KEPT: usize = 81;
@@ -80,7 +81,7 @@ fn keep(input: &mut [u8], rest: usize, end: usize) -> usize
     requires { ⌜ end ≤ length (now input) ⌝ }
     ensures { λ r. ⌜ r ≤ 81 ⌝ }
 {
-    let size = least(KEPT, end - rest);
+    let size = least_length(KEPT, end - rest);
     let mut i = 0;
     while i < size {
         input[i] = input[rest + i];
@@ -176,7 +177,7 @@ fn read_all(
 // A last line may have no end.
 fn last(round: Round, input: &[u8], memory: &mut [u8], sector: &mut [u8], output: &mut [u8])
     requires { ⌜ round .kept ≤ length (now input) ⌝ }
-    requires { ⌜ 152 ≤ length (now output) ⌝ }
+    requires { ⌜ room ≤ length (now output) ⌝ }
 {
     let bench = round.bench;
     let kept = round.kept;

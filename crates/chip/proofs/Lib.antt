@@ -1,6 +1,3 @@
--- Laws of the chip's definitions: what the proofs of its calls cite, and that every call keeps the reached states.
-pub mod Plain
-pub mod Lent
-pub mod Reached
-pub mod ReachedSector
-pub mod ReachedWord
+-- Laws of the chip's definitions: what soundness says, and the answers that the proofs of its calls cite.
+pub mod Sounds
+pub mod Answers

@@ -1,5 +1,5 @@
--- The chip: one definition for each call, over the controller's and the ring's.
+-- The chip: its record and when it is sound, one definition for each call, over the controller's and the ring's, and the chip as a machine.
+pub mod Sound
 pub mod Chip
 pub mod Calls
-pub mod Host
-pub mod Reached
+pub mod Machine

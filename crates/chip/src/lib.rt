@@ -1,15 +1,16 @@
 // The chip: controller and ring's place as one record that each call takes and gives back, with the ring's memory lent where a
 // call touches it.
-mod calls;
-mod host;
 mod memory;
+mod plain;
+mod sound;
 
 use controller::Controller;
-use controller::Event;
+use controller::Step;
+use reply::Reply;
 use ring::Place;
-use sector::Reply;
 ghost use mathlib.Core.Path.{_≡_};
-ghost use Rattle.chip.specs.Chip.{refused, opened, chip-sound, concluded};
+ghost use Rattle.chip.specs.Chip.{refused, opened, finished};
+ghost use Rattle.controller.specs.Transfer.{concluded};
 ghost use Rattle.ring.specs.Place.{PlaceSound};
 
 pub struct Chip {
@@ -22,8 +23,19 @@ pub struct Told {
     pub reply: Reply,
 }
 
+// A word is handed over or a refusal, never both.
+pub enum Word {
+    Handed(u16),
+    Refused(u8),
+}
+
+pub struct WordTold {
+    pub chip: Chip,
+    pub word: Word,
+}
+
 impl Chip {
-    // Wrong programs that the contract rules out: one that takes a ring of 2 or 256 blocks, and one that opens with TCC 1.
+    // Ruled out: one that takes a ring of 2 or 256 blocks, and one that opens with TCC 1.
     pub fn open(n: u16) -> Told
         ensures { λ r. ⌜ r ≡ opened n ⌝ }
     {
@@ -42,24 +54,11 @@ impl Chip {
             };
         }
         let place = Place::opened(0);
-        Told {
-            chip: Chip {
-                controller: controller,
-                place: place,
-            },
-            reply: Reply {
-                number: 1,
-                result: 0,
-            },
-        }
-    }
-
-    fn sound(self) -> bool
-        ensures { λ r. ⌜ r ≡ chip-sound self ⌝ }
-    {
-        let controller = self.controller;
-        let place = self.place;
-        place.sound() & controller.counts_fit(place.n) & controller.sound()
+        let chip = Chip {
+            controller: controller,
+            place: place,
+        };
+        chip.refuse(1)
     }
 
     fn refuse(self, number: u8) -> Told
@@ -73,38 +72,22 @@ impl Chip {
             },
         }
     }
+}
 
-    // The end of every call for which the controller has taken its step.
-    fn conclude(mut self, event: Event, reply: Reply) -> Told
-        requires { ⌜ PlaceSound (self .place) ⌝ }
-        ensures { λ r. ⌜ r ≡ concluded self event reply ⌝ }
-    {
-        let place = self.place;
-        let next = place.step(event);
-        self.place = next;
-        if reply.number == 0 {
-            let controller = self.controller;
-            let settled = controller.settle();
-            self.controller = settled;
-            return Told {
-                chip: self,
-                reply: reply,
-            };
-        }
-        Told {
-            chip: self,
-            reply: reply,
-        }
+// The end of every call for which the controller has taken its step.
+fn conclude(place: Place, taken: Step) -> Told
+    requires { ⌜ PlaceSound place ⌝ }
+    ensures { λ r. ⌜ r ≡ finished place (concluded taken) ⌝ }
+{
+    let step = taken.conclude();
+    let controller = step.controller;
+    let event = step.event;
+    let reply = step.reply;
+    Told {
+        chip: Chip {
+            controller: controller,
+            place: place.step(event),
+        },
+        reply: reply,
     }
-}
-
-// A word is handed over or a refusal, never both.
-pub enum Word {
-    Handed(u16),
-    Refused(u8),
-}
-
-pub struct WordTold {
-    pub chip: Chip,
-    pub word: Word,
 }

@@ -1,25 +1,29 @@
-// The calls that the ring's memory is lent to: a sector, and a look at the oldest block.
+// The calls that the ring's memory is lent to: a sector, a look at the oldest block, and the host's word.
 use crate::Chip;
 use crate::Told;
+use crate::Word;
+use crate::WordTold;
+use crate::conclude;
 ghost use mathlib.Core.Path.{_≡_};
-ghost use lib.ListN.{length};
+ghost use mathlib.Core.Bool.{_&&_};
 ghost use Rattle.chip.specs.Chip.{ring-fits};
-ghost use Rattle.chip.specs.Calls.{sector-number, sector-told, sector-ring, looked};
+ghost use Rattle.chip.specs.Sound.{sound};
+ghost use Rattle.chip.specs.Calls.{sector-number, lent, sector-lent, looked, word-told};
 
 impl Chip {
-    pub(crate) fn ring_fits(self, ring: &[u8]) -> bool
-        ensures { λ r. ⌜ r ≡ ring-fits self (now (ring .entry)) ⌝ }
+    // What every call with a lent ring tests first: a sound record, and a ring of its N blocks.
+    fn ready(self, ring: &[u8]) -> bool
+        ensures { λ r. ⌜ r ≡ (sound self && ring-fits self (now (ring .entry))) ⌝ }
     {
         let place = self.place;
-        ring.len() == place.n as usize * 2560
+        self.sound() & (ring.len() == place.n as usize * 2560)
     }
 
     // The reply number of a sector, before a byte of it is moved.
     fn sector_number(self, ring: &[u8], sector: &[u8]) -> u8
         ensures { λ r. ⌜ r ≡ sector-number self (now (ring .entry)) (now (sector .entry)) ⌝ }
     {
-        let sound = self.sound();
-        if !(sound & self.ring_fits(ring) & (sector.len() == 2352)) {
+        if !(self.ready(ring) & (sector.len() == 2352)) {
             return 1;
         }
         let controller = self.controller;
@@ -27,10 +31,9 @@ impl Chip {
         controller.admission(place.full())
     }
 
-    // Wrong programs that the contract rules out: one that counts a bad sector in TCC too, and one that stores a sector it refuses.
+    // Ruled out: one that counts a bad sector in TCC too, and one that stores a sector it refuses.
     pub fn sector(mut self, ring: &mut [u8], sector: &[u8]) -> Told
-        ensures told { λ r. ⌜ r ≡ sector-told self (now (ring .entry)) (now (sector .entry)) ⌝ }
-        ensures ring { λ _. ⌜ now (ring .exit) ≡ sector-ring self (now (ring .entry)) (now (sector .entry)) ⌝ }
+        ensures { λ r. ⌜ lent r (now (ring .exit)) ≡ sector-lent self (now (ring .entry)) (now (sector .entry)) ⌝ }
     {
         let number = self.sector_number(ring, sector);
         if number != 0 {
@@ -41,14 +44,10 @@ impl Chip {
         let expected = controller.expected;
         let judgement = ring::store(ring, place.b, sector, expected);
         let step = controller.counted(judgement);
-        let next = step.controller;
-        let event = step.event;
-        let reply = step.reply;
-        self.controller = next;
-        self.conclude(event, reply)
+        conclude(place, step)
     }
 
-    // Wrong programs that the contract rules out: one that shows block B, and one that shows a block when TCC is 0.
+    // Ruled out: one that shows block B, and one that shows a block when TCC is 0.
     pub fn look(self, ring: &[u8]) -> &[u8]
         ensures { λ r. ⌜ now r ≡ looked self (now (ring .entry)) ⌝ }
     {
@@ -56,10 +55,40 @@ impl Chip {
         let place = self.place;
         let counts = controller.counts;
         let window = controller.window;
-        let sound = self.sound();
-        if !(sound & self.ring_fits(ring) & !(counts.tcc == 0) & !(window.words == 0)) {
+        if !(self.ready(ring) & !(counts.tcc == 0) & !(window.words == 0)) {
             return &ring[0..0];
         }
         ring::words_of(ring, place.t, window.offset, window.words)
+    }
+
+    // Ruled out: one whose word is constant, and one that serves block B, or counts TCC and T only at the transfer's end.
+    pub fn host_word(mut self, ring: &[u8]) -> WordTold
+        ensures { λ r. ⌜ r ≡ word-told self (now (ring .entry)) ⌝ }
+    {
+        if !self.ready(ring) {
+            return WordTold {
+                chip: self,
+                word: Word::Refused(1),
+            };
+        }
+        let controller = self.controller;
+        let place = self.place;
+        let transfer = controller.transfer;
+        let window = controller.window;
+        let step = controller.host_word();
+        let reply = step.reply;
+        let told = conclude(place, step);
+        let chip = told.chip;
+        if reply.number == 0 {
+            let word = ring::word_of(ring, place.t, window.offset, transfer.position);
+            return WordTold {
+                chip: chip,
+                word: Word::Handed(word),
+            };
+        }
+        WordTold {
+            chip: chip,
+            word: Word::Refused(reply.number),
+        }
     }
 }

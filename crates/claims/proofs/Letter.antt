@@ -1,166 +1,30 @@
--- Memory-free of the chip; Accounted and Never-again of every machine with demand 3, and so of the chip. Assumes nothing.
+-- Accounted and Never-again of every machine with demand 3, by its book alone. Assumes nothing.
 use Prim.Native.Nat.{ℕ, zero, suc, _+_, _*_, _<_, _≤_}
 use mathlib.Core.Path.{_≡_, refl, sym, ap, ap₂, subst, _∙_}
 use mathlib.Core.Bool.{Bool, true, false, _&&_}
 use mathlib.Core.List.{List, [], _∷_, _++_, map}
-use mathlib.Core.Logic.{inl, inr}
+use mathlib.Core.Logic.{inl, inr, ⊎-elim}
 use native.Mathlib.Omega.{arith}
 use lib.Dec.{eqb}
 use lib.ListN.{length, take, drop, getD, length-append, List·getD-append}
+use lib.Seq.{getD-append-seam}
 use borrow.Author.Tests.{eqb-true}
+use Rattle.laws.specs.Bytes.{word-at}
 use Rattle.laws.specs.Choice.{if_then_else_}
-use Rattle.scramble.specs.Scramble.{scrambled}
-use Rattle.sector.specs.Judge.{judgement}
+use Rattle.calls.specs.declared.Call.the-variants.{Write, Read, SetBlock, SetWindow, SetExpected, PacketByte, Reset, Command, PacketWord, Status, Srst}
+use Rattle.sector.specs.Receive.{received}
 use Rattle.controller.specs.Bits.{bit}
-use Rattle.controller.specs.Decoder.{counted}
-use Rattle.ring.specs.Memory.{word-at}
-use Rattle.chip.specs.Chip.{finished, refused}
-use Rattle.chip.specs.Calls.{sector-number, sector-told}
-use Rattle.chip.specs.declared.Chip.{Chip}
-use Rattle.chip.specs.declared.Told.{Told}
-use Rattle.chip.proofs.ReachedSector.{reached-number}
-use Rattle.claims.specs.Demand3.{Call, Answer, Machine, Book, write, read, set-block, set-window, set-expected, packet-byte, reset, sector, look, word, command, packet-word, status, srst, replied, handed, refused as refused-word, seen, number, first-book, good, joined, with-row, with-k, fed, feed, limited, stops, Wordless, Right, Faithful, Demand3}
-use Rattle.claims.specs.Letter.{answers, Memory-free, Sub, empty, keep, skip, noted, history, Traced, Accounted-run, Accounted, Ledger, first-ledger, waiting, entry, entered, enter, Rising, Waits, Numbered, Served, Gone, Ledger-run, noted-number, served, Climbing, Never-again}
-use Rattle.claims.specs.Machines.{State, over, of-told, chip-answer, chip-step, the-chip}
-use Rattle.claims.proofs.Holds.{Holds}
-use Rattle.claims.proofs.Steps.{holds}
-use Rattle.claims.proofs.Twins.{Alike, alike}
-use Rattle.claims.proofs.Word.{step-word}
-use Rattle.claims.proofs.Words.{holds-opened}
-use Rattle.claims.proofs.Demand3.{demand3}
+use Rattle.controller.specs.Fields.{_▹_}
+use Rattle.outcomes.specs.Book.{Book, row≔, acmen≔, k≔, first-book, takes, joined, fed, feed}
+use Rattle.outcomes.specs.Machine.{Call, plain, sector, look, word, Answer, replied, handed, refused, seen, number, Machine}
+use Rattle.claims.specs.Demand3.{Right, Faithful, Demand3}
+use Rattle.claims.specs.Letter.{Sub, empty, keep, skip, noted, history, Traced, Accounted-run, Accounted, Ledger, first-ledger, waiting, entry, entered, enter, Rising, Waits, Numbered, Served, Gone, Ledger-run, noted-number, served, Climbing, Never-again}
 
--- 1. One chip over two memories that hold the same row.
+-- Lists with places left out
 
-module _ (c : Chip) (x y : List ℕ) (b : Book) (l : Bool) (hx : Holds (over c x) b l) (hy : Holds (over c y) b l) where
-  abbrev Same : Call → Type 0
-  Same call = (chip-answer call (over c x) ≡ chip-answer call (over c y)) × (chip-step call (over c x) .chip ≡ chip-step call (over c y) .chip)
-
-  same-number : (s : List ℕ) → sector-number c x s ≡ sector-number c y s
-  same-number s = reached-number c x (b .row) (hx .reached) s ∙ sym (reached-number c y (b .row) (hy .reached) s)
-
-  same-told : (s : List ℕ) → sector-told c x s ≡ sector-told c y s
-  unfolding sector-told
-  same-told s =
-      ap
-      (λ (n : ℕ). if eqb n 0 then finished c (counted (c .controller) (judgement (c .controller .expected) (scrambled s))) else refused c n)
-      (same-number s)
-
-  -- looks and words are those of the row
-  like : (call : Call) → stops call (number (chip-answer call (over c x))) l ≡ false → Alike call (over c x) (over c y)
-  like call stop = alike (c .controller) (c .place) (c .place) x y b l (omega arith) hx hy call stop
-
-  same : (call : Call) → Same call
-  unfolding chip-answer chip-step
-  same (write reg v) = (refl, refl)
-  same (read reg) = (refl, refl)
-  same (set-block t) = (refl, refl)
-  same (set-window o w) = (refl, refl)
-  same (set-expected a) = (refl, refl)
-  same (packet-byte i) = (refl, refl)
-  same reset = (refl, refl)
-  same (sector s) = (ap of-told (same-told s), ap (λ (t : Told). t .chip) (same-told s))
-  same look = (like look refl .answer, refl)
-  same word =
-      (like word refl .answer, ap (λ (z : State). z .chip) (step-word (over c x) b l hx) ∙ sym (ap (λ (z : State). z .chip) (step-word (over c y) b l hy)))
-  same (command v) = (refl, refl)
-  same (packet-word w) = (refl, refl)
-  same status = (refl, refl)
-  same srst = (refl, refl)
-
-same-of :
-    (s t : State) (b : Book) (l : Bool) → Holds s b l → Holds t b l → s .chip ≡ t .chip → (call : Call)
-    → (chip-answer call s ≡ chip-answer call t) × (chip-step call s .chip ≡ chip-step call t .chip)
-same-of s t b l hs ht e call =
-    subst
-    (λ (c : Chip). Holds (over c (t .ring)) b l
-    → (chip-answer call s ≡ chip-answer call (over c (t .ring))) × (chip-step call s .chip ≡ chip-step call (over c (t .ring)) .chip))
-    e (λ h. same (s .chip) (s .ring) (t .ring) b l hs h call) ht
-
-same-answers :
-    (cs : List Call) (s t : State) (b : Book) (l : Bool) → Holds s b l → Holds t b l → s .chip ≡ t .chip
-    → answers the-chip cs s ≡ answers the-chip cs t
-same-answers [] s t b l hs ht e = refl
-same-answers (c ∷ cs) s t b l hs ht e =
-    let both = same-of s t b l hs ht e c in
-    ap₂ (λ (a : Answer) (rest : List Answer). a ∷ rest) (both .0)
-    (same-answers cs (chip-step c s) (chip-step c t) _ _ (holds s b l hs c)
-    (subst (λ (n : ℕ). Holds (chip-step c t) (feed c n b) (limited c n l)) (sym (ap number (both .0))) (holds t b l ht c))
-    (both .1))
-
-pub memory-free : Memory-free the-chip
-memory-free n low high x y size-x size-y cs =
-    same-answers cs _ _ first-book false (holds-opened n x low high size-x) (holds-opened n y low high size-y) refl
-
--- Every call makes one of five changes to the book's row, the ledger and the history.
-
-module _ (P : List (List ℕ) → Ledger → List (List ℕ) → Type 0) (b : Book) (g : Ledger) (h : List (List ℕ))
-    (stay : P (b .row) g h)
-    (withdraw : (v : ℕ) → P (take v (b .row)) (waiting (take v (g .row)) g) h)
-    (leave : (v : ℕ) → P (drop v (b .row)) (waiting (drop v (g .row)) g) h)
-    (join : (s : List ℕ) → P (b .row ++ s ∷ []) (entry s g) (h ++ s ∷ []))
-    (restart : P [] (waiting [] g) [])
-  where
-    abbrev Changed : Call → Type 0
-    Changed c = P (fed c b .row) (entered c b g) (noted c b h)
-
-    changed-write : (reg v : ℕ) → Changed (write reg v)
-    changed-write reg v = by (eqb reg 0x9C) refl
-      where
-        past : (e f : Bool)
-            → P ((if e then with-row (take v (b .row)) b else if f then with-row (drop v (b .row)) b else b) .row)
-            (if e then waiting (take v (g .row)) g else if f then waiting (drop v (g .row)) g else g) h
-        past true f = withdraw v
-        past false true = leave v
-        past false false = stay
-
-        by : (e : Bool) → eqb reg 0x9C ≡ e
-            → P ((if e then record { row = b .row; expected = b .expected; offset = b .offset; words = b .words; acmen = bit v 6; k = b .k }
-            else if eqb reg 0x9D then with-row (take v (b .row)) b
-            else if eqb reg 0x9E && b .acmen then with-row (drop v (b .row)) b
-            else b) .row) (entered (write reg v) b g) h
-        by true e = subst (λ (r : ℕ). P (b .row) (entered (write r v) b g) h) (sym (eqb-true reg 0x9C e)) stay
-        by false e = past (eqb reg 0x9D) (eqb reg 0x9E && b .acmen)
-
-    changed-sector : (s : List ℕ) → Changed (sector s)
-    changed-sector s = by (good b s)
-      where
-        by : (e : Bool) → P ((if e then joined s b else b) .row) (if e then entry (scrambled s) g else g) (if e then h ++ scrambled s ∷ [] else h)
-        by true = join (scrambled s)
-        by false = stay
-
-    changed-word : Changed word
-    changed-word = by (eqb (b .k + 1) (b .words))
-      where
-        by : (e : Bool) → P ((if e then with-k 0 (with-row (drop 1 (b .row)) b) else with-k (b .k + 1) b) .row)
-            (if e then waiting (drop 1 (g .row)) g else g) h
-        by true = leave 1
-        by false = stay
-
-    changed : (c : Call) → Changed c
-    changed (write reg v) = changed-write reg v
-    changed (read reg) = stay
-    changed (set-block t) = stay
-    changed (set-window o w) = stay
-    changed (set-expected a) = stay
-    changed (packet-byte i) = stay
-    changed reset = restart
-    changed (sector s) = changed-sector s
-    changed look = stay
-    changed word = changed-word
-    changed (command v) = stay
-    changed (packet-word w) = stay
-    changed status = stay
-    changed srst = stay
-
-    changes : (c : Call) (n : ℕ) → P (feed c n b .row) (enter c n b g) (history c n b h)
-    unfolding feed
-    changes c n = by (eqb n 0)
-      where
-        by : (e : Bool) → P ((if e then fed c b else b) .row) (if e then entered c b g else g) (if e then noted c b h else h)
-        by true = changed c
-        by false = stay
-
--- 2. The row is of the history.
+whole : {A : Type 0} (xs : List A) → Sub xs xs
+whole [] = empty
+whole (x ∷ xs) = keep (whole xs)
 
 sub-drop : {A : Type 0} {xs ys : List A} (v : ℕ) → Sub xs ys → Sub (drop v xs) ys
 sub-drop zero h = h
@@ -183,93 +47,43 @@ sub-join z (empty {ys = ys}) = sub-last z ys
 sub-join z (keep h) = keep (sub-join z h)
 sub-join z (skip h) = skip (sub-join z h)
 
--- the first of the row stands somewhere in the history
+-- the first of a row stands somewhere in the history
 found : {xs ys : List (List ℕ)} → Sub xs ys → (xs ≡ [] → ⊥) → (i : ℕ) × (i < length ys) × (getD xs 0 [] ≡ getD ys i [])
 found empty some = absurd (some refl)
 found (keep h) some = (0, omega arith, refl)
 found (skip h) some = let at = found h some in let below = at .1 in (suc (at .0), omega arith, at .2)
 
-sub-step : (b : Book) (h : List (List ℕ)) → Sub (b .row) h → (c : Call) (n : ℕ) → Sub (feed c n b .row) (history c n b h)
-sub-step b h sub =
-    changes (λ (row : List (List ℕ)) (g : Ledger) (h : List (List ℕ)). Sub row h) b first-ledger h sub
-    (λ v. sub-take v sub) (λ v. sub-drop v sub) (λ s. sub-join s sub) empty
-
--- what is right of an answer says this of a word that is handed over
-abbrev Handed : Answer → Book → Type 0
-Handed (handed w) b = Right word (handed w) b
-Handed (replied n v) b = Unit {0}
-Handed (refused-word n) b = Unit {0}
-Handed (seen bytes) b = Unit {0}
-
-of-word : (a : Answer) (b : Book) → Right word a b → Handed a b
-of-word (handed w) b right = right
-of-word (replied n v) b right = tt
-of-word (refused-word n) b right = tt
-of-word (seen bytes) b right = tt
-
-of-other : (a : Answer) (b : Book) → Wordless a → Handed a b
-of-other (handed w) b right = absurd right
-of-other (replied n v) b right = tt
-of-other (refused-word n) b right = tt
-of-other (seen bytes) b right = tt
-
-handed-right : (c : Call) (a : Answer) (b : Book) → Right c a b → Handed a b
-handed-right word a b right = of-word a b right
-handed-right (write reg v) a b right = of-other a b right
-handed-right (read reg) a b right = of-other a b right
-handed-right (set-block t) a b right = of-other a b right
-handed-right (set-window o w) a b right = of-other a b right
-handed-right (set-expected e) a b right = of-other a b right
-handed-right (packet-byte i) a b right = of-other a b right
-handed-right reset a b right = of-other a b right
-handed-right (sector s) a b right = of-other a b right
-handed-right look a b right = of-other a b right
-handed-right (command v) a b right = of-other a b right
-handed-right (packet-word w) a b right = of-other a b right
-handed-right status a b right = of-other a b right
-handed-right srst a b right = of-other a b right
-
-traced : (a : Answer) (b : Book) (h : List (List ℕ)) → Sub (b .row) h → Handed a b → Traced a b h
-traced (handed w) b h sub right =
-    let at = found sub (right .0) in
-    (at .0, at .1, right .1 ∙ ap (λ (s : List ℕ). word-at s (b .offset + 2 * b .k)) (at .2))
-traced (replied n v) b h sub right = tt
-traced (refused-word n) b h sub right = tt
-traced (seen bytes) b h sub right = tt
-
-accounted-run :
-    (M : Machine) (cs : List Call) (s : M .State) (b : Book) (h : List (List ℕ)) → Faithful M cs s b → Sub (b .row) h → Accounted-run M cs s b h
-accounted-run M [] s b h f sub = sub
-accounted-run M (c ∷ cs) s b h f sub =
-    (sub, traced (M .answer c s) b h sub (handed-right c (M .answer c s) b (f .0)), accounted-run M cs _ _ _ (f .1) (sub-step b h sub c (number (M .answer c s))))
-
--- of every machine with demand 3
-pub accounted-by : (M : Machine) → Demand3 M → Accounted M
-accounted-by M d n low high x size cs = accounted-run M cs (M .opened n x) first-book [] (d .words n low high x size cs) empty
-
-pub accounted : Accounted the-chip
-accounted = accounted-by the-chip demand3
-
--- 3. The numbers that wait.
+-- Numbers that rise
 
 rising-from : (low high from : ℕ) (row : List ℕ) → from ≤ low → Rising low row high → Rising from row high
 rising-from low high from [] le r = tt
 rising-from low high from (i ∷ rest) le r = let first = r .0 in (omega arith, r .1, r .2)
 
-rising-take : (v low high : ℕ) (row : List ℕ) → Rising low row high → Rising low (take v row) high
-rising-take zero low high row r = tt
-rising-take (suc v) low high [] r = tt
-rising-take (suc v) low high (i ∷ rest) r = (r .0, r .1, rising-take v (i + 1) high rest (r .2))
-
-rising-drop : (v low high : ℕ) (row : List ℕ) → Rising low row high → Rising low (drop v row) high
-rising-drop zero low high row r = r
-rising-drop (suc v) low high [] r = tt
-rising-drop (suc v) low high (i ∷ rest) r =
-    let first = r .0 in rising-from (i + 1) high low (drop v rest) (omega arith) (rising-drop v (i + 1) high rest (r .2))
+rising-sub : {xs ys : List ℕ} (low high : ℕ) → Sub xs ys → Rising low ys high → Rising low xs high
+rising-sub low high empty r = tt
+rising-sub low high (keep {x} h) r = (r .0, r .1, rising-sub (x + 1) high h (r .2))
+rising-sub low high (skip {y} {xs} h) r = let first = r .0 in rising-from (y + 1) high low xs (omega arith) (rising-sub (y + 1) high h (r .2))
 
 rising-join : (low high : ℕ) (row : List ℕ) → low ≤ high → Rising low row high → Rising low (row ++ high ∷ []) (high + 1)
 rising-join low high [] le r = (le, omega arith, tt)
 rising-join low high (i ∷ rest) le r = let below = r .1 in (r .0, omega arith, rising-join (i + 1) high rest (omega arith) (r .2))
+
+waits-sub : {xs ys : List ℕ} (i : ℕ) → Sub xs ys → Waits i xs → Waits i ys
+waits-sub i empty w = absurd w
+waits-sub i (keep h) (inl e) = inl e
+waits-sub i (keep h) (inr w) = inr (waits-sub i h w)
+waits-sub i (skip h) w = inr (waits-sub i h w)
+
+waits-join : (i n : ℕ) (row : List ℕ) → i < n → Waits i (row ++ n ∷ []) → Waits i row
+waits-join i n [] less (inl e) = absurd (omega arith)
+waits-join i n [] less (inr w) = absurd w
+waits-join i n (j ∷ rest) less (inl e) = inl e
+waits-join i n (j ∷ rest) less (inr w) = inr (waits-join i n rest less w)
+
+-- The sectors of a log with these numbers
+
+abbrev sectors-of : List (List ℕ) → List ℕ → List (List ℕ)
+sectors-of log row = map (λ (i : ℕ). getD log i []) row
 
 map-take : {A B : Type 0} (f : A → B) (v : ℕ) (xs : List A) → map f (take v xs) ≡ take v (map f xs)
 map-take f zero xs = refl
@@ -281,178 +95,223 @@ map-drop f zero xs = refl
 map-drop f (suc v) [] = refl
 map-drop f (suc v) (x ∷ xs) = map-drop f v xs
 
--- the sectors of a log with these numbers
-abbrev sectors-of : List (List ℕ) → List ℕ → List (List ℕ)
-sectors-of log row = map (λ (i : ℕ). getD log i []) row
-
-getD-last : (log : List (List ℕ)) (s : List ℕ) → getD (log ++ s ∷ []) (length log) [] ≡ s
-getD-last [] s = refl
-getD-last (x ∷ log) s = getD-last log s
-
 sectors-join :
     (log : List (List ℕ)) (s : List ℕ) (low : ℕ) (row : List ℕ) → Rising low row (length log)
     → sectors-of (log ++ s ∷ []) (row ++ length log ∷ []) ≡ sectors-of log row ++ s ∷ []
-sectors-join log s low [] r = ap (λ (x : List ℕ). x ∷ []) (getD-last log s)
+sectors-join log s low [] r = ap (λ (x : List ℕ). x ∷ []) (getD-append-seam log s [] [])
 sectors-join log s low (i ∷ rest) r =
     ap₂ (λ (x : List ℕ) (xs : List (List ℕ)). x ∷ xs) (List·getD-append log (s ∷ []) [] i (r .1)) (sectors-join log s (i + 1) rest (r .2))
 
--- a row of sectors beside its ledger, with no number below low
-record Ordered (low : ℕ) (row : List (List ℕ)) (g : Ledger) : Type 0 where
+-- where there is a first sector, it is the first number's, and from that number on the row rises
+first :
+    (log : List (List ℕ)) (row : List ℕ) (low high : ℕ) → Rising low row high → (sectors-of log row ≡ [] → ⊥)
+    → Waits (getD row 0 0) row × (getD (sectors-of log row) 0 [] ≡ getD log (getD row 0 0) [])
+    × (low ≤ getD row 0 0) × (getD row 0 0 < high) × Rising (getD row 0 0) row high
+first log [] low high r some = absurd (some refl)
+first log (i ∷ rest) low high r some = let below = r .1 in (inl refl, refl, r .0, r .1, (omega arith, r .1, r .2))
+
+-- What holds of a row of sectors beside its ledger and the history: no number is below low
+
+record Tracked (low : ℕ) (row : List (List ℕ)) (g : Ledger) (h : List (List ℕ)) : Type 0 where
+  listed : Sub row h
   sectors : sectors-of (g .log) (g .row) ≡ row
   rising : Rising low (g .row) (length (g .log))
   below : low ≤ length (g .log)
 
-longer : (log : List (List ℕ)) (s : List ℕ) → length (log ++ s ∷ []) ≡ length log + 1
-longer log s = length-append log (s ∷ [])
-
-ordered-join : (low : ℕ) (row : List (List ℕ)) (g : Ledger) → Ordered low row g → (s : List ℕ) → Ordered low (row ++ s ∷ []) (entry s g)
-ordered-join low row g o s =
-    let le = o .below in
-    record {
-      sectors = sectors-join (g .log) s low (g .row) (o .rising) ∙ ap (λ (r : List (List ℕ)). r ++ s ∷ []) (o .sectors);
-      rising = rw (longer (g .log) s) (rising-join low (length (g .log)) (g .row) le (o .rising));
-      below = rw (longer (g .log) s) (omega arith);
-    }
-
-ordered-step : (low : ℕ) (b : Book) (g : Ledger) → Ordered low (b .row) g → (c : Call) (n : ℕ) → Ordered low (feed c n b .row) (enter c n b g)
-ordered-step low b g o =
-    changes (λ (row : List (List ℕ)) (g : Ledger) (h : List (List ℕ)). Ordered low row g) b g [] o
-    (λ v. record {
-      sectors = map-take (λ (i : ℕ). getD (g .log) i []) v (g .row) ∙ ap (take v) (o .sectors);
-      rising = rising-take v low (length (g .log)) (g .row) (o .rising);
-      below = o .below;
-    })
-    (λ v. record {
-      sectors = map-drop (λ (i : ℕ). getD (g .log) i []) v (g .row) ∙ ap (drop v) (o .sectors);
-      rising = rising-drop v low (length (g .log)) (g .row) (o .rising);
-      below = o .below;
-    })
-    (λ s. ordered-join low (b .row) g o s)
-    (record { sectors = refl; rising = tt; below = o .below })
-
--- A number that left does not come back: every new one is the log's length.
-
-waits-take : (i v : ℕ) (row : List ℕ) → Waits i (take v row) → Waits i row
-waits-take i zero row w = absurd w
-waits-take i (suc v) [] w = absurd w
-waits-take i (suc v) (j ∷ rest) (inl e) = inl e
-waits-take i (suc v) (j ∷ rest) (inr w) = inr (waits-take i v rest w)
-
-waits-drop : (i v : ℕ) (row : List ℕ) → Waits i (drop v row) → Waits i row
-waits-drop i zero row w = w
-waits-drop i (suc v) [] w = absurd w
-waits-drop i (suc v) (j ∷ rest) w = inr (waits-drop i v rest w)
-
-waits-join : (i n : ℕ) (row : List ℕ) → i < n → Waits i (row ++ n ∷ []) → Waits i row
-waits-join i n [] less (inl e) = absurd (omega arith)
-waits-join i n [] less (inr w) = absurd w
-waits-join i n (j ∷ rest) less (inl e) = inl e
-waits-join i n (j ∷ rest) less (inr w) = inr (waits-join i n rest less w)
+numbered : (low : ℕ) (b : Book) (g : Ledger) (h : List (List ℕ)) → Tracked low (b .row) g h → Numbered b g
+numbered low b g h t = record { sectors = t .sectors; rising = rising-from low (length (g .log)) 0 (g .row) (omega arith) (t .rising) }
 
 -- a number that was given and does not wait
 abbrev Out : ℕ → Ledger → Type 0
 Out i g = (i < length (g .log)) × (Waits i (g .row) → ⊥)
 
-out-join : (i : ℕ) (g : Ledger) → Out i g → (s : List ℕ) → Out i (entry s g)
-out-join i g o s =
-    let less = o .0 in (rw (longer (g .log) s) (omega arith), λ w. o .1 (waits-join i (length (g .log)) (g .row) less w))
+-- after a call: and a number that is out stays out, for every new one is the log's length
+record Next (low : ℕ) (g : Ledger) (row : List (List ℕ)) (k : Ledger) (h : List (List ℕ)) : Type 0 where
+  tracked : Tracked low row k h
+  out : (i : ℕ) → Out i g → Out i k
 
-out-step : (i : ℕ) (b : Book) (g : Ledger) → Out i g → (c : Call) (n : ℕ) → Out i (enter c n b g)
-out-step i b g o =
-    changes (λ (row : List (List ℕ)) (g : Ledger) (h : List (List ℕ)). Out i g) b g [] o
-    (λ v. (o .0, λ w. o .1 (waits-take i v (g .row) w)))
-    (λ v. (o .0, λ w. o .1 (waits-drop i v (g .row) w)))
-    (out-join i g o)
-    (o .0, λ w. w)
+-- Every call makes one of five changes
 
-gone : (i : ℕ) (M : Machine) (cs : List Call) (s : M .State) (b : Book) (g : Ledger) → Out i g → Gone i M cs s b g
-gone i M [] s b g o = o .1
-gone i M (c ∷ cs) s b g o = (o .1, gone i M cs _ _ _ (out-step i b g o c (number (M .answer c s))))
+module _ (low : ℕ) (b : Book) (g : Ledger) (h : List (List ℕ)) (t : Tracked low (b .row) g h) where
+  stay : Next low g (b .row) g h
+  stay = record { tracked = t; out = λ i o. o }
 
-numbered : (b : Book) (g : Ledger) → Ordered 0 (b .row) g → Numbered b g
-numbered b g o = record { sectors = o .sectors; rising = o .rising }
+  fewer :
+      (row : List (List ℕ)) (numbers : List ℕ) (l : List (List ℕ)) → Sub row l → Sub numbers (g .row) → sectors-of (g .log) numbers ≡ row
+      → Next low g row (waiting numbers g) l
+  fewer row numbers l listed sub e =
+      record {
+        tracked = record { listed = listed; sectors = e; rising = rising-sub low (length (g .log)) sub (t .rising); below = t .below };
+        out = λ i o. (o .0, λ w. o .1 (waits-sub i sub w));
+      }
 
--- where the book's row is not empty, the ledger's has a first number, and the sectors' first is that number's
-first-waits : (log : List (List ℕ)) (row : List ℕ) → (sectors-of log row ≡ [] → ⊥) → Waits (getD row 0 0) row
-first-waits log [] some = absurd (some refl)
-first-waits log (i ∷ rest) some = inl refl
+  withdraw : (v : ℕ) → Next low g (take v (b .row)) (waiting (take v (g .row)) g) h
+  withdraw v =
+      fewer (take v (b .row)) (take v (g .row)) h (sub-take v (t .listed)) (sub-take v (whole (g .row)))
+      (map-take (λ (i : ℕ). getD (g .log) i []) v (g .row) ∙ ap (take v) (t .sectors))
 
-first-sector : (log : List (List ℕ)) (row : List ℕ) → (sectors-of log row ≡ [] → ⊥) → getD (sectors-of log row) 0 [] ≡ getD log (getD row 0 0) []
-first-sector log [] some = absurd (some refl)
-first-sector log (i ∷ rest) some = refl
+  leave : (v : ℕ) → Next low g (drop v (b .row)) (waiting (drop v (g .row)) g) h
+  leave v =
+      fewer (drop v (b .row)) (drop v (g .row)) h (sub-drop v (t .listed)) (sub-drop v (whole (g .row)))
+      (map-drop (λ (i : ℕ). getD (g .log) i []) v (g .row) ∙ ap (drop v) (t .sectors))
 
-served-right : (low : ℕ) (a : Answer) (b : Book) (g : Ledger) → Ordered low (b .row) g → Handed a b → Served a b g
-served-right low (handed w) b g o right =
-    let some : sectors-of (g .log) (g .row) ≡ [] → ⊥ = λ e. right .0 (sym (o .sectors) ∙ e) in (
-      first-waits (g .log) (g .row) some,
-      right .1
-          ∙ ap (λ (s : List ℕ). word-at s (b .offset + 2 * b .k))
-          (ap (λ (r : List (List ℕ)). getD r 0 []) (sym (o .sectors)) ∙ first-sector (g .log) (g .row) some),
-    )
-served-right low (replied n v) b g o right = tt
-served-right low (refused-word n) b g o right = tt
-served-right low (seen bytes) b g o right = tt
+  join : (s : List ℕ) → Next low g (b .row ++ s ∷ []) (entry s g) (h ++ s ∷ [])
+  join s =
+      let le = t .below in
+      let longer : length (g .log ++ s ∷ []) ≡ length (g .log) + 1 = length-append (g .log) (s ∷ []) in
+      record {
+        tracked =
+            record {
+              listed = sub-join s (t .listed);
+              sectors = sectors-join (g .log) s low (g .row) (t .rising) ∙ ap (λ (r : List (List ℕ)). r ++ s ∷ []) (t .sectors);
+              rising = rw longer (rising-join low (length (g .log)) (g .row) le (t .rising));
+              below = rw longer (omega arith);
+            };
+        out = λ i o. let less = o .0 in (rw longer (omega arith), λ w. o .1 (waits-join i (length (g .log)) (g .row) less w));
+      }
 
--- and no word is of its sector
-not-served :
-    (i : ℕ) (M : Machine) (cs : List Call) (s : M .State) (b : Book) (g : Ledger) → Faithful M cs s b → Ordered 0 (b .row) g → Out i g
-    → Waits i (served M cs s b g) → ⊥
-not-served i M [] s b g f o out = λ w. w
-not-served i M (c ∷ cs) s b g f o out =
-    by (M .answer c s) (served-right 0 (M .answer c s) b g o (handed-right c (M .answer c s) b (f .0)))
-    (served M cs (M .step c s) (feed c (number (M .answer c s)) b) (enter c (number (M .answer c s)) b g))
-    (not-served i M cs _ _ _ (f .1) (ordered-step 0 b g o c (number (M .answer c s))) (out-step i b g out c (number (M .answer c s))))
-  where
-    by : (a : Answer) → Served a b g → (rest : List ℕ) → (Waits i rest → ⊥) → Waits i (noted-number a g rest) → ⊥
-    by (handed w) right rest later (inl e) = out .1 (subst (λ (j : ℕ). Waits j (g .row)) (sym e) (right .0))
-    by (handed w) right rest later (inr w′) = later w′
-    by (replied n v) right rest later w = later w
-    by (refused-word n) right rest later w = later w
-    by (seen bytes) right rest later w = later w
+  abbrev Changed : Call → Type 0
+  Changed c = Next low g (fed c b .row) (entered c b g) (noted c b h)
 
-ledger-run :
-    (M : Machine) (cs : List Call) (s : M .State) (b : Book) (g : Ledger) → Faithful M cs s b → Ordered 0 (b .row) g → Ledger-run M cs s b g
-ledger-run M [] s b g f o = numbered b g o
-ledger-run M (c ∷ cs) s b g f o = (
-  numbered b g o,
-  served-right 0 (M .answer c s) b g o (handed-right c (M .answer c s) b (f .0)),
-  λ i less out. (gone i M (c ∷ cs) s b g (less, out), not-served i M (c ∷ cs) s b g f o (less, out)),
-  ledger-run M cs _ _ _ (f .1) (ordered-step 0 b g o c (number (M .answer c s))),
-)
+  written : (reg v : ℕ) → Changed (plain (Write reg v))
+  written reg v = by (eqb reg 0x9C) refl
+    where
+      past : (d e : Bool)
+          → Next low g ((if d then b ▹ row≔ (take v (b .row)) else if e then b ▹ row≔ (drop v (b .row)) else b) .row)
+          (if d then waiting (take v (g .row)) g else if e then waiting (drop v (g .row)) g else g) h
+      past true e = withdraw v
+      past false true = leave v
+      past false false = stay
 
--- The numbers served: each is the first that waits, and from it on no lower one does.
+      by : (e : Bool) → eqb reg 0x9C ≡ e
+          → Next low g ((if e then b ▹ acmen≔ (bit v 6)
+          else if eqb reg 0x9D then b ▹ row≔ (take v (b .row))
+          else if eqb reg 0x9E && b .acmen then b ▹ row≔ (drop v (b .row))
+          else b) .row) (entered (plain (Write reg v)) b g) h
+      by true e = subst (λ (r : ℕ). Next low g (b .row) (entered (plain (Write r v)) b g) h) (sym (eqb-true reg 0x9C e)) stay
+      by false e = past (eqb reg 0x9D) (eqb reg 0x9E && b .acmen)
 
-first-from : (low high : ℕ) (row : List ℕ) → Waits (getD row 0 0) row → Rising low row high
-    → (low ≤ getD row 0 0) × (getD row 0 0 < high) × Rising (getD row 0 0) row high
-first-from low high [] w r = absurd w
-first-from low high (i ∷ rest) w r = let below = r .1 in (r .0, r .1, (omega arith, r .1, r .2))
+  changed : (c : Call) → Changed c
+  changed (plain (Write reg v)) = written reg v
+  changed (plain Reset) = fewer [] [] [] empty empty refl
+  changed (plain (Read reg)) = stay
+  changed (plain (SetBlock n)) = stay
+  changed (plain (SetWindow o w)) = stay
+  changed (plain (SetExpected a)) = stay
+  changed (plain (PacketByte i)) = stay
+  changed (plain (Command v)) = stay
+  changed (plain (PacketWord w)) = stay
+  changed (plain Status) = stay
+  changed (plain Srst) = stay
+  changed (sector s) = by (takes b s)
+    where
+      by : (e : Bool) → Next low g ((if e then joined s b else b) .row) (if e then entry (received (b .expected) s .bytes) g else g)
+          (if e then h ++ received (b .expected) s .bytes ∷ [] else h)
+      by true = join (received (b .expected) s .bytes)
+      by false = stay
+  changed look = stay
+  changed word = by (eqb (b .k + 1) (b .words))
+    where
+      by : (e : Bool) → Next low g ((if e then b ▹ row≔ (drop 1 (b .row)) ▹ k≔ 0 else b ▹ k≔ (b .k + 1)) .row)
+          (if e then waiting (drop 1 (g .row)) g else g) h
+      by true = leave 1
+      by false = stay
 
-climbing :
-    (M : Machine) (cs : List Call) (s : M .State) (b : Book) (g : Ledger) (low : ℕ) → Faithful M cs s b → Ordered low (b .row) g
-    → Climbing low (served M cs s b g)
-climbing M [] s b g low f o = tt
-climbing M (c ∷ cs) s b g low f o =
-    by (M .answer c s) (handed-right c (M .answer c s) b (f .0)) (served M cs (M .step c s) (feed c (number (M .answer c s)) b) (enter c (number (M .answer c s)) b g))
-    (λ up p. climbing M cs _ _ _ up (f .1) (ordered-step up b g p c (number (M .answer c s))))
-  where
-    by : (a : Answer) → Handed a b → (rest : List ℕ) → ((up : ℕ) → Ordered up (b .row) g → Climbing up rest) → Climbing low (noted-number a g rest)
-    by (handed w) right rest next =
-        let at = first-from low (length (g .log)) (g .row) (served-right low (handed w) b g o right .0) (o .rising) in
-        let less = at .1 in
-        (at .0, next (getD (g .row) 0 0) (record { sectors = o .sectors; rising = at .2; below = omega arith }))
-    by (replied n v) right rest next = next low o
-    by (refused-word n) right rest next = next low o
-    by (seen bytes) right rest next = next low o
+  changes : (c : Call) (n : ℕ) → Next low g (feed c n b .row) (enter c n b g) (history c n b h)
+  unfolding feed
+  changes c n = by (eqb n 0)
+    where
+      by : (e : Bool) → Next low g ((if e then fed c b else b) .row) (if e then entered c b g else g) (if e then noted c b h else h)
+      by true = changed c
+      by false = stay
 
-ordered-first : Ordered 0 [] first-ledger
-ordered-first = record { sectors = refl; rising = tt; below = omega arith }
+-- What holds of an answer
 
--- of every machine with demand 3
-pub never-again-by : (M : Machine) → Demand3 M → Never-again M
-never-again-by M d = record {
-  ledger = λ n low high x size cs. ledger-run M cs (M .opened n x) first-book first-ledger (d .words n low high x size cs) ordered-first;
-  forward = λ n low high x size cs. climbing M cs (M .opened n x) first-book first-ledger 0 (d .words n low high x size cs) ordered-first;
-}
+record Told (low : ℕ) (a : Answer) (b : Book) (g : Ledger) (h : List (List ℕ)) : Type 0 where
+  traced : Traced a b h
+  served-first : Served a b g
+  -- no number below this one is served from now on
+  up : ℕ
+  tracked : Tracked up (b .row) g h
+  climbs : (rest : List ℕ) → Climbing up rest → Climbing low (noted-number a g rest)
+  kept-out : (i : ℕ) → (Waits i (g .row) → ⊥) → (rest : List ℕ) → (Waits i rest → ⊥) → Waits i (noted-number a g rest) → ⊥
 
-pub never-again : Never-again the-chip
-never-again = never-again-by the-chip demand3
+module _ (low : ℕ) (b : Book) (g : Ledger) (h : List (List ℕ)) (t : Tracked low (b .row) g h) where
+  told-word : (w : ℕ) → Right word (handed w) b → Told low (handed w) b g h
+  told-word w right =
+      let at = found (t .listed) (right .0) in
+      let one = first (g .log) (g .row) low (length (g .log)) (t .rising) (λ e. right .0 (sym (t .sectors) ∙ e)) in
+      let less = one .3 in
+      record {
+        traced = (at .0, at .1, right .1 ∙ ap (λ (s : List ℕ). word-at s (b .offset + 2 * b .k)) (at .2));
+        served-first = (
+          one .0,
+          right .1
+              ∙ ap (λ (s : List ℕ). word-at s (b .offset + 2 * b .k))
+              (ap (λ (r : List (List ℕ)). getD r 0 []) (sym (t .sectors)) ∙ one .1),
+        );
+        up = getD (g .row) 0 0;
+        tracked = record { listed = t .listed; sectors = t .sectors; rising = one .4; below = omega arith };
+        climbs = λ rest c. (one .2, c);
+        kept-out = λ i out rest later w. ⊎-elim (λ (e : i ≡ getD (g .row) 0 0). out (subst (λ (j : ℕ). Waits j (g .row)) (sym e) (one .0))) later w;
+      }
+
+  told : (c : Call) (a : Answer) → Right c a b → Told low a b g h
+  told word (handed w) right = told-word w right
+  told (plain c) (handed w) right = absurd right
+  told (sector s) (handed w) right = absurd right
+  told look (handed w) right = absurd right
+  told c (replied n v) right = record { traced = tt; served-first = tt; up = low; tracked = t; climbs = λ rest e. e; kept-out = λ i out rest later. later }
+  told c (refused n) right = record { traced = tt; served-first = tt; up = low; tracked = t; climbs = λ rest e. e; kept-out = λ i out rest later. later }
+  told c (seen bytes) right = record { traced = tt; served-first = tt; up = low; tracked = t; climbs = λ rest e. e; kept-out = λ i out rest later. later }
+
+-- Over a list of calls
+
+module _ (M : Machine) where
+  record Run (low : ℕ) (cs : List Call) (s : M .State) (b : Book) (g : Ledger) (h : List (List ℕ)) : Type 0 where
+    accounted : Accounted-run M cs s b h
+    gone : (i : ℕ) → Out i g → Gone i M cs s b g
+    unserved : (i : ℕ) → Out i g → Waits i (served M cs s b g) → ⊥
+    ledger : Ledger-run M cs s b g
+    climbing : Climbing low (served M cs s b g)
+
+  run : (cs : List Call) (low : ℕ) (s : M .State) (b : Book) (g : Ledger) (h : List (List ℕ)) → Faithful M cs s b → Tracked low (b .row) g h → Run low cs s b g h
+  run [] low s b g h f t =
+      record {
+        accounted = t .listed;
+        gone = λ i o. o .1;
+        unserved = λ i o w. w;
+        ledger = numbered low b g h t;
+        climbing = tt;
+      }
+  run (c ∷ cs) low s b g h f t =
+      let n = number (M .answer c s) in
+      let d = told low b g h t c (M .answer c s) (f .0) in
+      let next = changes (d .up) b g h (d .tracked) c n in
+      let r = run cs (d .up) (M .step c s) (feed c n b) (enter c n b g) (history c n b h) (f .1) (next .tracked) in
+      let gone : (i : ℕ) → Out i g → Gone i M (c ∷ cs) s b g = λ i o. (o .1, r .gone i (next .out i o)) in
+      let unserved : (i : ℕ) → Out i g → Waits i (served M (c ∷ cs) s b g) → ⊥ =
+      λ i o. d .kept-out i (o .1) (served M cs (M .step c s) (feed c n b) (enter c n b g)) (r .unserved i (next .out i o)) in
+      record {
+        accounted = (t .listed, d .traced, r .accounted);
+        gone = gone;
+        unserved = unserved;
+        ledger = (numbered low b g h t, d .served-first, λ i less out. (gone i (less, out), unserved i (less, out)), r .ledger);
+        climbing = d .climbs (served M cs (M .step c s) (feed c n b) (enter c n b g)) (r .climbing);
+      }
+
+  module _ (d : Demand3 M) where
+    from-opening : (n : ℕ) → 3 ≤ n → n ≤ 255 → (x : List ℕ) → length x ≡ n * 2560 → (cs : List Call) → Run 0 cs (M .opened n x) first-book first-ledger []
+    from-opening n low high x size cs =
+        run cs 0 (M .opened n x) first-book first-ledger [] (d .words n low high x size cs)
+        (record { listed = empty; sectors = refl; rising = tt; below = omega arith })
+
+    pub accounted-by : Accounted M
+    accounted-by n low high x size cs = from-opening n low high x size cs .accounted
+
+    pub never-again-by : Never-again M
+    never-again-by =
+        record {
+          ledger = λ n low high x size cs. from-opening n low high x size cs .ledger;
+          forward = λ n low high x size cs. from-opening n low high x size cs .climbing;
+        }

@@ -1,71 +1,133 @@
--- What the runs of the wrong machines share: a ring of three blocks, addresses, judgements, places, and the controller after each call.
--- Assumes nothing.
-use Prim.Native.Nat.{ℕ, _*_}
-use mathlib.Core.Path.{_≡_}
-use mathlib.Core.Bool.{true, false}
-use mathlib.Core.List.{List}
-use lib.ListN.{length, replicate, length-replicate}
+-- What the runs share: the row machine's answers and its state after a list of calls, sealed sectors among them; and that the chip's runs
+-- are the row machine's. Assumes nothing.
+use Prim.Native.Nat.{ℕ, _+_}
+use mathlib.Core.Path.{_≡_, refl, ap, ap₂, _∙_}
+use mathlib.Core.Bool.{Bool, true, false, _&&_, not}
+use mathlib.Core.List.{List, [], _∷_, _++_}
+use lib.Dec.{eqb}
+use lib.ListN.{length}
+use borrow.Author.Tests.{eq-eqb, not-true}
+use Rattle.laws.specs.Choice.{if_then_else_}
+use Rattle.laws.proofs.Choice.{left-true, right-true}
+use Rattle.sector.specs.Judge.{good, judgement}
+use Rattle.sector.specs.Sector.{framed, sealed}
 use Rattle.sector.specs.declared.Address.{Address}
 use Rattle.sector.specs.declared.Judgement.{Judgement}
-use Rattle.controller.specs.Fields.{_▹_, blimen≔, decen≔, acctl≔, tcc≔, bufc≔, expected≔, window≔, adcen≔, bsy≔}
+use Rattle.sector.specs.Address.{next}
+use Rattle.sector.proofs.Received.{received-sealed}
+use Rattle.sector.proofs.Sealed.{length-sealed, judged-own}
+use Rattle.controller.specs.Decoder.{admission, counted}
+use Rattle.controller.specs.Calls.{stepped}
+use Rattle.controller.specs.Fields.{_▹_, blimen≔, acctl≔, decen≔, tcc≔, bufc≔, expected≔}
 use Rattle.controller.specs.State.{initial}
+use Rattle.controller.specs.Transfer.{settled, concluded}
 use Rattle.controller.specs.Write as registers
 use Rattle.controller.specs.declared.state.Controller.{Controller}
-use Rattle.ring.specs.Place.{at}
-use Rattle.ring.specs.declared.Place.{Place}
-use Rattle.claims.specs.Demand3.{Book}
+use Rattle.outcomes.specs.Machine.{Call, Answer, replied, Machine, after, answers}
+use Rattle.outcomes.specs.Row.{Row, answered, row-answer, row-step, the-row}
+use Rattle.claims.specs.Demand3.{hidden}
+use Rattle.claims.specs.Refinement.{Simulation}
+use Rattle.claims.specs.Runs.{disc, set-up, ok, Gives}
+
+-- Runs
+
+pub record Ran (M : Machine) (cs : List Call) (s : M .State) (rs : List Answer) (t : M .State) : Type 0 where
+  pub told : answers M cs s ≡ rs
+  pub left : after M cs s ≡ t
+
+-- calls whose outcome computes
+pub calls : {M : Machine} (cs : List Call) (s : M .State) → Ran M cs s (answers M cs s) (after M cs s)
+calls cs s = record { told = refl; left = refl }
+
+told-on : (M : Machine) (cs ds : List Call) (s : M .State) → answers M (cs ++ ds) s ≡ answers M cs s ++ answers M ds (after M cs s)
+told-on M [] ds s = refl
+told-on M (c ∷ cs) ds s = ap (λ (rs : List Answer). M .answer c s ∷ rs) (told-on M cs ds (M .step c s))
+
+left-on : (M : Machine) (cs ds : List Call) (s : M .State) → after M (cs ++ ds) s ≡ after M ds (after M cs s)
+left-on M [] ds s = refl
+left-on M (c ∷ cs) ds s = left-on M cs ds (M .step c s)
+
+infixr 30 _then_
+pub _then_ : {M : Machine} {cs ds : List Call} {s t w : M .State} {rs ss : List Answer} → Ran M cs s rs t → Ran M ds t ss w → Ran M (cs ++ ds) s (rs ++ ss) w
+_then_ {M} {cs} {ds} {s} {rs = rs} a b =
+    record {
+      told =
+          told-on M cs ds s ∙ ap₂ (λ (x : List Answer) (y : M .State). x ++ answers M ds y) (a .told) (a .left)
+          ∙ ap (λ (x : List Answer). rs ++ x) (b .told);
+      left = left-on M cs ds s ∙ ap (after M ds) (a .left) ∙ b .left;
+    }
+
+-- The row machine
+
+abbrev pub opened : ℕ → Row
+opened n = record { controller = initial; blocks = n; row = [] }
+
+pub by-row : {n : ℕ} {cs : List Call} {rs : List Answer} {t : Row} → Ran the-row cs (opened n) rs t → Gives the-row n cs rs
+by-row run = record { given = λ x size. run .told }
+
+-- a sector of the right length that is judged j and has these bytes
+abbrev taken-number : Row → ℕ
+taken-number s = admission (s .controller) (eqb (s .controller .counts .bufc + 1) (s .blocks))
+
+abbrev pub taken-answer : Judgement → Row → Answer
+taken-answer j s = if eqb (taken-number s) 0 then answered (concluded (counted (s .controller) j)) else replied (taken-number s) 0
+
+abbrev pub taken-row : Judgement → List ℕ → Row → Row
+taken-row j bytes s =
+    if eqb (taken-number s) 0
+    then record {
+      controller = concluded (counted (s .controller) j) .controller;
+      blocks = s .blocks;
+      row = if good j then s .row ++ bytes ∷ [] else s .row;
+    }
+    else s
 
 abbrev pub frame : ℕ → Address
 frame f = record { minute = 0; second = 2; frame = f }
 
-abbrev pub fine : Judgement
-fine = record { staerr = false; hcei = false }
+-- a sealed sector
+module _ (u : List ℕ) (size : length u ≡ 2352) (f : ℕ) (s : Row) (j : Judgement) (e : judgement (s .controller .expected) (framed (frame f) u) ≡ j) where
+  pub decoded : Ran the-row (disc u f ∷ []) s (taken-answer j s ∷ []) (taken-row j (framed (frame f) u) s)
+  unfolding row-answer row-step
+  decoded =
+      let fits = eq-eqb (length (sealed (frame f) u)) 2352 (length-sealed (frame f) u size) in
+      let r = received-sealed (s .controller .expected) (frame f) u size in
+      record { told = simp (fits, r, e); left = simp (fits, r, e) }
 
-abbrev pub elsewhere : Judgement
-elsewhere = record { staerr = false; hcei = true }
+-- Three blocks with k good sectors decoded, from frame 0 on
 
-abbrev pub p0 : Place
-p0 = at 3 0 0 0
+abbrev pub decoding : ℕ → Controller
+decoding k = initial ▹ blimen≔ true ▹ acctl≔ (registers.acctl-of 0x60) ▹ decen≔ true ▹ tcc≔ k ▹ bufc≔ k ▹ expected≔ (frame k)
 
-abbrev pub p1 : Place
-p1 = at 3 0 1 0
+abbrev pub filled : ℕ → List (List ℕ) → Row
+filled k row = record { controller = decoding k; blocks = 3; row = row }
 
-abbrev pub p2 : Place
-p2 = at 3 0 2 1
+module _ (u : List ℕ) (size : length u ≡ 2352) where
+  pub own : (f : ℕ) → judgement (frame f) (framed (frame f) u) ≡ record { staerr = false; hcei = false }
+  own f = judged-own (frame f) u size
 
--- BLIMEN; ACMEN and TCINCEN; DECEN
-abbrev pub k1 : Controller
-k1 = initial ▹ blimen≔ true
+  pub first : Ran the-row (set-up ++ disc u 0 ∷ []) (opened 3) (ok ∷ ok ∷ ok ∷ ok ∷ []) (filled 1 (framed (frame 0) u ∷ []))
+  unfolding row-answer row-step stepped concluded settled admission counted next registers.write registers.write-bicctl registers.write-acctl registers.write-ctrl0
+  first = calls set-up (opened 3) then decoded u size 0 (filled 0 []) _ (own 0)
 
-abbrev pub k2 : Controller
-k2 = k1 ▹ acctl≔ (registers.acctl-of 0x60)
+  pub second : Ran the-row (disc u 1 ∷ []) (filled 1 (framed (frame 0) u ∷ [])) (ok ∷ []) (filled 2 (framed (frame 0) u ∷ framed (frame 1) u ∷ []))
+  unfolding concluded settled admission counted next
+  second = decoded u size 1 (filled 1 (framed (frame 0) u ∷ [])) _ (own 1)
 
-abbrev pub k3 : Controller
-k3 = k2 ▹ decen≔ true
+-- Where no call is hidden, a simulation gives all answers
 
--- n good sectors, the next expected in frame f
-abbrev pub decoded : ℕ → ℕ → Controller
-decoded n f = k3 ▹ tcc≔ n ▹ bufc≔ n ▹ expected≔ (frame f)
+abbrev pub unhidden : List Call → Bool
+unhidden [] = true
+unhidden (c ∷ cs) = not (hidden c) && unhidden cs
 
--- a window; with ADCEN and BSY a transfer can start
-abbrev pub windowed : ℕ → ℕ → Controller → Controller
-windowed o w c = c ▹ window≔ (record { offset = o; words = w })
+module _ {M R : Machine} (S : Simulation M R) where
+  pub same-answers : (cs : List Call) → unhidden cs ≡ true → (s : M .State) (r : R .State) → S .Related s r → answers M cs s ≡ answers R cs r
+  same-answers [] plainly s r h = refl
+  same-answers (c ∷ cs) plainly s r h =
+      let shown = not-true (hidden c) (left-true (not (hidden c)) (unhidden cs) plainly) in
+      ap₂ (λ (a : Answer) (rest : List Answer). a ∷ rest) (simp shown at (S .answer c s r h))
+      (same-answers cs (right-true (not (hidden c)) (unhidden cs) plainly) (M .step c s) (R .step c r) (S .step c s r h))
 
-abbrev pub armed : ℕ → ℕ → Controller → Controller
-armed o w c = windowed o w c ▹ adcen≔ true ▹ bsy≔ true
-
-abbrev pub book : List (List ℕ) → ℕ → ℕ → ℕ → ℕ → Book
-book row f o w k = record { row = row; expected = frame f; offset = o; words = w; acmen = true; k = k }
-
--- a ring and a buffer of zeros serve each run
-abbrev pub memory : List ℕ
-memory = replicate 7680 0
-
-abbrev pub buffer : List ℕ
-buffer = replicate 2352 0
-
-pub memory-size : length memory ≡ 3 * 2560
-memory-size = length-replicate {A = ℕ} 7680 0
-
-pub buffer-size : length buffer ≡ 2352
-buffer-size = length-replicate {A = ℕ} 2352 0
+  pub same-state : (cs : List Call) (s : M .State) (r : R .State) → S .Related s r → S .Related (after M cs s) (after R cs r)
+  same-state [] s r h = h
+  same-state (c ∷ cs) s r h = same-state cs (M .step c s) (R .step c r) (S .step c s r h)

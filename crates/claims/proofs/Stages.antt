@@ -1,93 +1,69 @@
--- One call of a run whose outcome is known: a sealed sector that is admitted, and a word that is handed over. Assumes nothing.
+-- Runs of a machine that answers as the chip, and goes on as the chip does after sectors and words: one sealed sector that is admitted, and one
+-- word that is handed over. Assumes nothing.
 use Prim.Native.Nat.{ℕ, _*_}
-use mathlib.Core.Path.{_≡_, refl, ap, subst₂, _∙_}
-use mathlib.Core.Bool.{true, false, _&&_}
-use mathlib.Core.List.{List, [], _∷_, _++_}
+use mathlib.Core.Path.{_≡_, refl, _∙_}
+use mathlib.Core.Bool.{true}
+use mathlib.Core.List.{List, [], _∷_}
 use native.Mathlib.Omega.{arith}
-use lib.Dec.{eqb}
 use lib.ListN.{length}
 use borrow.Author.Tests.{eq-eqb}
-use Rattle.laws.proofs.Choice.{both-true}
-use Rattle.scramble.specs.Scramble.{scrambled}
-use Rattle.sector.specs.Address.{next as next-address}
 use Rattle.sector.specs.Judge.{judgement}
 use Rattle.sector.specs.Sector.{framed, sealed}
-use Rattle.sector.specs.declared.Address.{Address}
 use Rattle.sector.specs.declared.Judgement.{Judgement}
+use Rattle.sector.proofs.Received.{received-sealed}
 use Rattle.sector.proofs.Sealed.{length-sealed}
-use Rattle.sector.proofs.Sealed as sealing
 use Rattle.controller.specs.Decoder.{admission, counted}
 use Rattle.controller.specs.Host.{host-word}
+use Rattle.controller.specs.Transfer.{concluded}
+use Rattle.controller.specs.declared.state.Controller.{Controller}
+use Rattle.outcomes.specs.Machine.{Call, sector, word, handed, Machine}
 use Rattle.ring.specs.Memory.{stored}
-use Rattle.ring.specs.Place.{full, opened, at}
-use Rattle.ring.specs.Rests.{Rests}
-use Rattle.ring.proofs.Rests.{rests-opened, rests-store-good}
-use Rattle.chip.specs.Chip.{chip-sound, ring-fits, concluded, finished}
-use Rattle.chip.specs.Calls.{sector-number, sector-told, sector-ring}
-use Rattle.chip.specs.Host.{next-word, word-told}
+use Rattle.ring.specs.Place.{at, full}
+use Rattle.ring.specs.Represents.{Represents}
+use Rattle.ring.specs.declared.Place.{Place}
+use Rattle.ring.proofs.Represents.{represents-opened, represents-store-good}
+use Rattle.chip.specs.Chip.{finished}
+use Rattle.chip.specs.Calls.{sector-number, sector-told, sector-ring, next-word, word-told}
+use Rattle.chip.specs.Sound.{sound}
+use Rattle.chip.specs.Machine.{State, over, of-told, chip-answer, chip-step, the-chip}
 use Rattle.chip.specs.declared.Chip.{Chip}
-use Rattle.chip.proofs.ReachedSector.{counted-number}
-use Rattle.claims.specs.Demand3.{Call, Machine, Book, sector, word, handed, number, good, fed, feed, Faithful}
-use Rattle.claims.specs.Machines.{State, over, chip-answer, chip-step}
+use Rattle.claims.specs.Runs.{disc}
+use Rattle.claims.proofs.Runs.{Ran, frame}
 
--- a list that is faithful from a state and a book on, as a record, so that they can be read off its type
-pub record Trusted (M : Machine) (cs : List Call) (s : M .State) (b : Book) : Type 0 where
-  pub it : Faithful M cs s b
+abbrev pub chip-with : Controller → Place → Chip
+chip-with k p = record { controller = k; place = p }
 
--- after one call that is done
-pub next :
-    {M : Machine} {c : Call} {cs : List Call} {s : M .State} {b : Book} (t : M .State) (d : Book)
-    → M .step c s ≡ t → number (M .answer c s) ≡ 0 → fed c b ≡ d → Trusted M (c ∷ cs) s b → Trusted M cs t d
-unfolding feed
-next {M} {c} {cs} {s} {b} t d e f g h =
-    record { it = subst₂ (λ (x : M .State) (y : Book). Faithful M cs x y) e (ap (λ (n : ℕ). feed c n b) f ∙ g) (h .it .1) }
+module _ (step : Call → State → State)
+    (as-sector : (x : List ℕ) (s : State) → step (sector x) s ≡ chip-step (sector x) s)
+    (as-word : (s : State) → step word s ≡ chip-step word s)
+    (k : Controller) (p : Place) (ring : List ℕ) (is-sound : sound (chip-with k p) ≡ true) (fits : length ring ≡ p .n * 2560)
+  where
+    abbrev M : Machine
+    M = record { State = State; opened = the-chip .opened; answer = chip-answer; step = step; facts = the-chip .facts }
 
--- the book of a sealed sector that is good, and of one that is not
-module _ (b : Book) (a : Address) (u : List ℕ) (size : length u ≡ 2352) where
-  pub fed-good :
-      judgement (b .expected) (framed a u) ≡ record { staerr = false; hcei = false }
-      → fed (sector (sealed a u)) b
-      ≡ record { row = b .row ++ framed a u ∷ []; expected = next-address (b .expected); offset = b .offset; words = b .words; acmen = b .acmen; k = b .k }
-  unfolding good
-  fed-good e = simp (sealing.opened a u size, e)
+    pub on-disc :
+        (u : List ℕ) → length u ≡ 2352 → (f : ℕ) (j : Judgement) → admission k (full p) ≡ 0 → judgement (k .expected) (framed (frame f) u) ≡ j
+        → Ran M (disc u f ∷ []) (over (chip-with k p) ring) (of-told (finished p (concluded (counted k j))) ∷ [])
+        (over (finished p (concluded (counted k j)) .chip) (stored ring (p .b) (framed (frame f) u)))
+    unfolding chip-answer chip-step sector-number sector-told sector-ring
+    on-disc u size f j admitted e =
+        let whole = eq-eqb (length ring) (p .n * 2560) fits in
+        let long = eq-eqb (length (sealed (frame f) u)) 2352 (length-sealed (frame f) u size) in
+        let r = received-sealed (k .expected) (frame f) u size in
+        record { told = simp (is-sound, whole, long, admitted, r, e); left = as-sector _ _ ∙ simp (is-sound, whole, long, admitted, r, e) }
 
-  pub fed-bad : judgement (b .expected) (framed a u) ≡ record { staerr = false; hcei = true } → fed (sector (sealed a u)) b ≡ b
-  unfolding good
-  fed-bad e = simp (sealing.opened a u size, e)
-
-module _ (c : Chip) (ring : List ℕ) (sound : chip-sound c ≡ true) (fits : length ring ≡ c .place .n * 2560) where
-  whole : (chip-sound c && ring-fits c ring) ≡ true
-  whole = both-true (chip-sound c) (ring-fits c ring) sound (eq-eqb _ _ fits)
-
-  module _ (a : Address) (u : List ℕ) (size : length u ≡ 2352) (admitted : admission (c .controller) (full (c .place)) ≡ 0) where
-    zero-number : sector-number c ring (sealed a u) ≡ 0
-    unfolding sector-number
-    zero-number = simp (both-true (chip-sound c && ring-fits c ring) (eqb (length (sealed a u)) 2352) whole (eq-eqb _ _ (length-sealed a u size)), admitted)
-
-    pub sector-step :
-        (j : Judgement) → judgement (c .controller .expected) (framed a u) ≡ j
-        → chip-step (sector (sealed a u)) (over c ring) ≡ over (finished c (counted (c .controller) j) .chip) (stored ring (c .place .b) (framed a u))
-    unfolding chip-step sector-told sector-ring
-    sector-step j e =
-        let o : scrambled (sealed a u) ≡ framed a u = sealing.opened a u size in
-        simp (zero-number, o, e)
-
-    pub sector-number-of : number (chip-answer (sector (sealed a u)) (over c ring)) ≡ 0
-    unfolding chip-answer sector-told concluded
-    sector-number-of = simp zero-number (counted-number (c .controller) (judgement (c .controller .expected) (scrambled (sealed a u))))
-
-  pub word-answer : host-word (c .controller) .reply .number ≡ 0 → chip-answer word (over c ring) ≡ handed (next-word c ring)
-  unfolding chip-answer word-told
-  word-answer e = simp (whole, e)
-
-  pub word-step : chip-step word (over c ring) ≡ over (finished c (host-word (c .controller)) .chip) ring
-  unfolding chip-step word-told
-  word-step = simp whole
+    pub on-word :
+        (w : ℕ) → host-word k .reply .number ≡ 0 → next-word (chip-with k p) ring ≡ w
+        → Ran M (word ∷ []) (over (chip-with k p) ring) (handed w ∷ []) (over (finished p (concluded (host-word k)) .chip) ring)
+    unfolding chip-answer chip-step word-told
+    on-word w done e =
+        let whole = eq-eqb (length ring) (p .n * 2560) fits in
+        record { told = simp (is-sound, whole, done, e); left = as-word _ ∙ simp (is-sound, whole) }
 
 -- a ring of three blocks with one or two sectors stored from block 0 on
 module _ (ring a b : List ℕ) (whole-ring : length ring ≡ 3 * 2560) (size-a : length a ≡ 2352) (size-b : length b ≡ 2352) where
-  pub one-stored : Rests (at 3 0 1 0) 1 1 (stored ring 0 a) (a ∷ [])
-  one-stored = rests-store-good (rests-opened 3 ring (omega arith) (omega arith) whole-ring) a (omega arith) size-a refl
+  pub one-stored : Represents (at 3 0 1 0) 1 1 (stored ring 0 a) (a ∷ [])
+  one-stored = represents-store-good (represents-opened 3 ring (omega arith) (omega arith) whole-ring) a (omega arith) size-a refl
 
-  pub two-stored : Rests (at 3 0 2 1) 2 2 (stored (stored ring 0 a) 1 b) (a ∷ b ∷ [])
-  two-stored = rests-store-good one-stored b (omega arith) size-b refl
+  pub two-stored : Represents (at 3 0 2 1) 2 2 (stored (stored ring 0 a) 1 b) (a ∷ b ∷ [])
+  two-stored = represents-store-good one-stored b (omega arith) size-b refl

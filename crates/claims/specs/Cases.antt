@@ -3,20 +3,22 @@
 use Prim.Native.Nat.{ℕ, _*_, _≤_}
 use mathlib.Core.Path.{_≡_}
 use mathlib.Core.Bool.{true, false}
-use mathlib.Core.List.{List, [], _∷_}
+use mathlib.Core.List.{List}
 use lib.ListN.{length}
-use Rattle.scramble.specs.Scramble.{scrambled}
-use Rattle.sector.specs.Judge.{judgement}
+use Rattle.calls.specs.declared.Call.the-variants.{Write, SetWindow}
+use Rattle.sector.specs.Judge.{good}
+use Rattle.sector.specs.Receive.{received}
 use Rattle.sector.specs.declared.Address.{Address}
 use Rattle.controller.specs.Decoder.{at-stop}
 use Rattle.controller.specs.declared.state.Controller.{Controller}
 use Rattle.ring.specs.Place.{full}
-use Rattle.chip.specs.Chip.{opened, refused, chip-sound}
-use Rattle.chip.specs.Calls.{written, window-set, sector-told}
+use Rattle.outcomes.specs.Machine.{Call, after}
+use Rattle.chip.specs.Chip.{opened, refused}
+use Rattle.chip.specs.Sound.{sound}
+use Rattle.chip.specs.Calls.{called, sector-told}
+use Rattle.chip.specs.Machine.{State, over, the-chip}
 use Rattle.chip.specs.declared.Chip.{Chip}
 use Rattle.chip.specs.declared.Told.{Told}
-use Rattle.claims.specs.Demand3.{Call}
-use Rattle.claims.specs.Machines.{State, over, chip-step}
 
 abbrev pub number : Told → ℕ
 number r = r .reply .number
@@ -32,26 +34,26 @@ address m s f = record { minute = m; second = s; frame = f }
 
 -- P4 and P5: no transfer runs
 pub record Given4 (c : Chip) : Type 0 where
-  pub sound : chip-sound c ≡ true
+  pub sound-record : sound c ≡ true
   pub idle : c .controller .transfer .running ≡ false
 
 -- P7: TCC 2, DECEN low
 pub record Given7 (c : Chip) : Type 0 where
-  pub sound : chip-sound c ≡ true
+  pub sound-record : sound c ≡ true
   pub idle : c .controller .transfer .running ≡ false
   pub decen : c .controller .buffering .decen ≡ false
   pub two : c .controller .counts .tcc ≡ 2
 
 -- P8: ACMEN high, TCC 2
 pub record Given8 (c : Chip) : Type 0 where
-  pub sound : chip-sound c ≡ true
+  pub sound-record : sound c ≡ true
   pub idle : c .controller .transfer .running ≡ false
   pub acmen : c .controller .acctl .acmen ≡ true
   pub two : c .controller .counts .tcc ≡ 2
 
 -- P9: TCC 2, TTC 5, ATLIM 0, 1,024 words, STWCEN; and what a start needs
 pub record Given9 (c : Chip) : Type 0 where
-  pub sound : chip-sound c ≡ true
+  pub sound-record : sound c ≡ true
   pub idle : c .controller .transfer .running ≡ false
   pub unreceiving : c .controller .packet .receiving ≡ false
   pub acmen : c .controller .acctl .acmen ≡ true
@@ -65,14 +67,14 @@ pub record Given9 (c : Chip) : Type 0 where
 
 -- P10: expected 00:02:74, a good sector; and what a sector needs
 pub record Given10 (c : Chip) (ring s : List ℕ) : Type 0 where
-  pub sound : chip-sound c ≡ true
+  pub sound-record : sound c ≡ true
   pub whole : length ring ≡ c .place .n * 2560
   pub decen : c .controller .buffering .decen ≡ true
   pub unheld : c .controller .counts .held ≡ false
   pub room : at-stop (c .controller) (full (c .place)) ≡ false
   pub expected : c .controller .expected ≡ address 0 2 74
   pub size : length s ≡ 2352
-  pub good : judgement (address 0 2 74) (scrambled s) ≡ record { staerr = false; hcei = false }
+  pub fine : good (received (address 0 2 74) s .judgement) ≡ true
 
 -- The table
 
@@ -80,38 +82,33 @@ pub record Cases : Type 0 where
   -- ring 2 or 256: 1
   pub p1 : (number (opened 2) ≡ 1) × (number (opened 256) ≡ 1)
   -- ring 3, BUFLIM 1: 0
-  pub p2 : number (written (opened 3 .chip) 0x9B 1) ≡ 0
+  pub p2 : number (called (opened 3 .chip) (Write 0x9B 1)) ≡ 0
   -- ring 3, BUFLIM 2: 3
-  pub p3 : number (written (opened 3 .chip) 0x9B 2) ≡ 3
+  pub p3 : number (called (opened 3 .chip) (Write 0x9B 2)) ≡ 3
   -- window 16, 1,024 words: 0
-  pub p4 : (c : Chip) → Given4 c → number (window-set c 16 1024) ≡ 0
+  pub p4 : (c : Chip) → Given4 c → number (called c (SetWindow 16 1024)) ≡ 0
   -- window 2,350, 1 word: 0
-  pub p5 : (c : Chip) → Given4 c → number (window-set c 2350 1) ≡ 0
+  pub p5 : (c : Chip) → Given4 c → number (called c (SetWindow 2350 1)) ≡ 0
   -- window 2,351, 1 word: 3, a transfer or none
-  pub p6 : (c : Chip) → chip-sound c ≡ true → number (window-set c 2351 1) ≡ 3
+  pub p6 : (c : Chip) → sound c ≡ true → number (called c (SetWindow 2351 1)) ≡ 3
   -- TCC 2, DECEN low, write 9Dh 3: 6; write 1: 0, and TCC is 1
   pub p7 : (c : Chip) → Given7 c
-      → (written c 0x9D 3 ≡ refused c 6)
-      × (number (written c 0x9D 1) ≡ 0) × (afterwards (written c 0x9D 1) .counts .tcc ≡ 1)
+      → (called c (Write 0x9D 3) ≡ refused c 6)
+      × (number (called c (Write 0x9D 1)) ≡ 0) × (afterwards (called c (Write 0x9D 1)) .counts .tcc ≡ 1)
   -- ACMEN high, TCC 2, skip 2: TCC 0; skip 3: 6
   pub p8 : (c : Chip) → Given8 c
-      → (number (written c 0x9E 2) ≡ 0) × (afterwards (written c 0x9E 2) .counts .tcc ≡ 0)
-      × (written c 0x9E 3 ≡ refused c 6)
+      → (number (called c (Write 0x9E 2)) ≡ 0) × (afterwards (called c (Write 0x9E 2)) .counts .tcc ≡ 0)
+      × (called c (Write 0x9E 3) ≡ refused c 6)
   -- TCC 2, TTC 5, ATLIM 0, 1,024 words, STWCEN, start: MBC 1, 35h=10h (ATBHI), 34h=00h (ATBLO)
   pub p9 : (c : Chip) → Given9 c
-      → (number (written c 0x17 0x04) ≡ 0) × (afterwards (written c 0x17 0x04) .mbc ≡ 1)
-      × (afterwards (written c 0x17 0x04) .task .atbhi ≡ 0x10) × (afterwards (written c 0x17 0x04) .task .atblo ≡ 0x00)
+      → (number (called c (Write 0x17 0x04)) ≡ 0) × (afterwards (called c (Write 0x17 0x04)) .mbc ≡ 1)
+      × (afterwards (called c (Write 0x17 0x04)) .task .atbhi ≡ 0x10) × (afterwards (called c (Write 0x17 0x04)) .task .atblo ≡ 0x00)
   -- expected 00:02:74, good sector: then 00:03:00
   pub p10 : (c : Chip) (ring s : List ℕ) → Given10 c ring s
       → (number (sector-told c ring s) ≡ 0) × (sector-told c ring s .reply .result ≡ 0)
       × (afterwards (sector-told c ring s) .expected ≡ address 0 3 0)
 
 -- The conditions are met
-
--- the state after a list of calls
-abbrev pub run : List Call → State → State
-run [] s = s
-run (c ∷ cs) s = run cs (chip-step c s)
 
 -- calls lead from a chip opened over a memory of its size to a state where P holds
 pub record Reachable (P : State → Type 0) : Type 0 where
@@ -121,7 +118,7 @@ pub record Reachable (P : State → Type 0) : Type 0 where
   pub memory : List ℕ
   pub whole : length memory ≡ blocks * 2560
   pub calls : List Call
-  pub met : P (run calls (over (opened blocks .chip) memory))
+  pub met : P (after the-chip calls (over (opened blocks .chip) memory))
 
 pub record CasesMet : Type 0 where
   -- P4, P5 and P6

@@ -5,24 +5,20 @@ use Prim.Native.Nat.{ℕ, _+_, _*_, _≤_}
 use mathlib.Core.Path.{_≡_}
 use mathlib.Core.List.{List, [], _∷_}
 use lib.ListN.{length}
-use Rattle.controller.specs.Bits.{weight}
-use Rattle.chip.specs.Reached.{Reached}
-use Rattle.claims.specs.Demand3.{Call, Book, number, feed, first-book}
-use Rattle.claims.specs.Machines.{State, chip-answer, chip-step, the-chip}
+use Rattle.laws.specs.Numbers.{weight}
+use Rattle.outcomes.specs.Book.{Book, feed, first-book}
+use Rattle.outcomes.specs.Machine.{Call, number, Machine, after}
+use Rattle.chip.specs.Machine.{State, the-chip}
+use Rattle.claims.specs.Refinement.{Refines}
 
--- the chip and its ring after a list of calls
-abbrev pub after : List Call → State → State
-after [] s = s
-after (c ∷ cs) s = after cs (chip-step c s)
-
--- the book after the same list, fed by the calls and their reply numbers
-abbrev pub book-after : List Call → State → Book → Book
-book-after [] s b = b
-book-after (c ∷ cs) s b = book-after cs (chip-step c s) (feed c (number (chip-answer c s)) b)
+-- the book after a list of calls, fed by the calls and their reply numbers
+abbrev pub book-after : (M : Machine) → List Call → M .State → Book → Book
+book-after M [] s b = b
+book-after M (c ∷ cs) s b = book-after M cs (M .step c s) (feed c (number (M .answer c s)) b)
 
 pub record Counted (s : State) (b : Book) : Type 0 where
-  -- the state is a reached one, its ring holding the book's row
-  pub reached : Reached (s .chip) (s .ring) (b .row)
+  -- the chip's ring holds the book's row
+  pub refines : Refines s (record { controller = s .chip .controller; blocks = s .chip .place .n; row = b .row })
   -- TCC is the number of sectors in the row, and BUFC one more while a bad sector is held
   pub tcc : s .chip .controller .counts .tcc ≡ length (b .row)
   pub bufc : s .chip .controller .counts .bufc ≡ length (b .row) + weight (s .chip .controller .counts .held) 1
@@ -30,4 +26,4 @@ pub record Counted (s : State) (b : Book) : Type 0 where
 abbrev pub CountedClaim : Type 0
 CountedClaim =
     (n : ℕ) → 3 ≤ n → n ≤ 255 → (x : List ℕ) → length x ≡ n * 2560 → (cs : List Call)
-    → Counted (after cs (the-chip .opened n x)) (book-after cs (the-chip .opened n x) first-book)
+    → Counted (after the-chip cs (the-chip .opened n x)) (book-after the-chip cs (the-chip .opened n x) first-book)

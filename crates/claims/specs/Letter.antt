@@ -9,16 +9,13 @@ use mathlib.Core.Logic.{_⊎_}
 use lib.Dec.{eqb}
 use lib.ListN.{length, take, drop, getD}
 use Rattle.laws.specs.Choice.{if_then_else_}
-use Rattle.scramble.specs.Scramble.{scrambled}
-use Rattle.ring.specs.Memory.{word-at}
-use Rattle.claims.specs.Demand3.{Call, Answer, Machine, Book, write, read, set-block, set-window, set-expected, packet-byte, reset, sector, look, word, command, packet-word, status, srst, replied, handed, refused, seen, number, first-book, good, feed}
+use Rattle.laws.specs.Bytes.{word-at}
+use Rattle.calls.specs.Choice.{if-write, if-reset}
+use Rattle.sector.specs.Receive.{received}
+use Rattle.outcomes.specs.Book.{Book, first-book, takes, feed}
+use Rattle.outcomes.specs.Machine.{Call, plain, sector, look, word, Answer, replied, handed, refused, seen, number, Machine, answers}
 
 -- 1. The answers do not depend on what lay in the memory
-
--- all answers to a list of calls
-abbrev pub answers : (M : Machine) → List Call → M .State → List Answer
-answers M [] s = []
-answers M (c ∷ cs) s = M .answer c s ∷ answers M cs (M .step c s)
 
 -- opened over any two memories of its size, the machine gives the same answers to every list of calls; none is masked, none is left out
 abbrev pub Memory-free : Machine → Type 0
@@ -36,20 +33,10 @@ pub data Sub {A : Type 0} : List A → List A → Type 0 where
 
 -- what an accepted call adds to the history: a sector that the book finds good, opened; a chip reset begins a new one
 abbrev pub noted : Call → Book → List (List ℕ) → List (List ℕ)
-noted (sector s) b h = if good b s then h ++ scrambled s ∷ [] else h
-noted reset b h = []
-noted (write reg v) b h = h
-noted (read reg) b h = h
-noted (set-block t) b h = h
-noted (set-window o w) b h = h
-noted (set-expected e) b h = h
-noted (packet-byte i) b h = h
+noted (sector s) b h = if takes b s then h ++ received (b .expected) s .bytes ∷ [] else h
+noted (plain c) b h = if-reset c [] h
 noted look b h = h
 noted word b h = h
-noted (command v) b h = h
-noted (packet-word w) b h = h
-noted status b h = h
-noted srst b h = h
 
 -- the history: the good sectors of the accepted sector calls since the opening or the last accepted chip reset, in the order of the calls
 abbrev pub history : Call → ℕ → Book → List (List ℕ) → List (List ℕ)
@@ -94,23 +81,16 @@ entry s g = record { log = g .log ++ s ∷ []; row = g .row ++ length (g .log) �
 
 -- an accepted call moves the numbers as the book moves the sectors; a chip reset leaves none, and no number is given twice
 abbrev pub entered : Call → Book → Ledger → Ledger
-entered (sector s) b g = if good b s then entry (scrambled s) g else g
-entered (write reg v) b g =
+entered (plain c) b g =
+    if-write c
+    (λ reg v.
     if eqb reg 0x9D then waiting (take v (g .row)) g
     else if eqb reg 0x9E && b .acmen then waiting (drop v (g .row)) g
-    else g
-entered word b g = if eqb (b .k + 1) (b .words) then waiting (drop 1 (g .row)) g else g
-entered reset b g = waiting [] g
-entered (read reg) b g = g
-entered (set-block t) b g = g
-entered (set-window o w) b g = g
-entered (set-expected e) b g = g
-entered (packet-byte i) b g = g
+    else g)
+    (if-reset c (waiting [] g) g)
+entered (sector s) b g = if takes b s then entry (received (b .expected) s .bytes) g else g
 entered look b g = g
-entered (command v) b g = g
-entered (packet-word w) b g = g
-entered status b g = g
-entered srst b g = g
+entered word b g = if eqb (b .k + 1) (b .words) then waiting (drop 1 (g .row)) g else g
 
 abbrev pub enter : Call → ℕ → Book → Ledger → Ledger
 enter c n b g = if eqb n 0 then entered c b g else g

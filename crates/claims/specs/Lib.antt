@@ -1,7 +1,7 @@
--- Claims about lists of calls: demand 3 of any machine, the chip as a machine, what the chip counts, consequences for the letter, machines that demand 3 shuts out, runs that
+-- Claims about lists of calls: demand 3 of any machine, how the chip refines the row machine, what the chip counts, consequences for the letter, machines that demand 3 shuts out, runs that
 -- show demand 3 to be no empty claim, and the bench cases.
 pub mod Demand3
-pub mod Machines
+pub mod Refinement
 pub mod Counted
 pub mod Wrong
 pub mod Letter

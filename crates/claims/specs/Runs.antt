@@ -1,26 +1,34 @@
 -- Runs that show demand 3 to be no empty claim: words are handed over, a restart follows a bad sector, an abort falls into a half-read
 -- block, and only the smaller of two rings stops (paper 01, "Demand 3 in full", "Bench cases", "Slips seen on other boards"). Each run stands
--- with all its answers; proofs/MetRuns.antt has them proved. Assumes nothing.
+-- with all its answers, for any memory and any user bytes of its sectors; proofs/MetRuns.antt has them proved. Assumes nothing.
 use Prim.Native.Nat.{ℕ, _*_}
 use mathlib.Core.Path.{_≡_}
 use mathlib.Core.List.{List, [], _∷_, _++_}
-use lib.ListN.{replicate}
+use lib.ListN.{length}
 use Rattle.sector.specs.Sector.{sealed}
-use Rattle.claims.specs.Demand3.{Call, Answer, write, read, set-window, sector, word, command, srst, replied, handed}
-use Rattle.claims.specs.Machines.{State, chip-answer, chip-step, the-chip}
+use Rattle.calls.specs.declared.Call.the-variants.{Write, Read, SetWindow, Command, Srst}
+use Rattle.outcomes.specs.Machine.{Call, plain, sector, word, Answer, replied, handed, Machine, answers}
+use Rattle.chip.specs.Machine.{the-chip}
 
--- what each call of a list is answered
-abbrev pub answers : List Call → State → List Answer
-answers [] s = []
-answers (c ∷ cs) s = chip-answer c s ∷ answers cs (chip-step c s)
+-- calls that touch no memory
+abbrev pub write : ℕ → ℕ → Call
+write reg v = plain (Write reg v)
 
--- a chip opened with n blocks over a memory of zeros
-abbrev pub new : ℕ → State
-new n = the-chip .opened n (replicate (n * 2560) 0)
+abbrev pub read : ℕ → Call
+read reg = plain (Read reg)
 
--- a sealed sector at 00:02:f, its user bytes 0; for f below 10 its word at byte 14 is 256 + f (the frame, then mode 1)
-abbrev pub disc : ℕ → Call
-disc f = sector (sealed (record { minute = 0; second = 2; frame = f }) (replicate 2352 0))
+abbrev pub set-window : ℕ → ℕ → Call
+set-window o w = plain (SetWindow o w)
+
+abbrev pub command : ℕ → Call
+command v = plain (Command v)
+
+abbrev pub srst : Call
+srst = plain Srst
+
+-- a sector sealed at 00:02:f with the user bytes of u; for f below 10 its word at byte 14 is 256 + f (the frame, then mode 1)
+abbrev pub disc : List ℕ → ℕ → Call
+disc u f = sector (sealed (record { minute = 0; second = 2; frame = f }) u)
 
 -- BLIMEN; ACMEN and TCINCEN; DECEN
 abbrev pub set-up : List Call
@@ -37,22 +45,28 @@ transfer o w = set-window o w ∷ write 0x18 0x40 ∷ command 0 ∷ write 0x17 0
 abbrev pub ok : Answer
 ok = replied 0 0
 
-pub record Met : Type 0 where
+-- opened with n blocks over any memory of that size, a machine gives these answers to these calls
+pub record Gives (M : Machine) (n : ℕ) (cs : List Call) (rs : List Answer) : Type 0 where
+  pub given : (x : List ℕ) → length x ≡ n * 2560 → answers M cs (M .opened n x) ≡ rs
+
+pub record Met (M : Machine) (u : List ℕ) : Type 0 where
   -- two words of one sector: minute and second, frame and mode
   pub words-handed :
-      answers (set-up ++ disc 0 ∷ transfer 12 2 ++ word ∷ word ∷ []) (new 3)
-      ≡ ok ∷ ok ∷ ok ∷ ok ∷ ok ∷ ok ∷ ok ∷ ok ∷ handed 512 ∷ handed 256 ∷ []
+      Gives M 3 (set-up ++ disc u 0 ∷ transfer 12 2 ++ word ∷ word ∷ [])
+      (ok ∷ ok ∷ ok ∷ ok ∷ ok ∷ ok ∷ ok ∷ ok ∷ handed 512 ∷ handed 256 ∷ [])
   -- frame 5 where 1 is expected is bad: its result is HCEI, and the chip, held, answers 8; after a restart frame 1 is counted (TCC, 9Dh, is
   -- 2), and the words are those of frames 0 and 1
   pub bad-then-restarted :
-      answers
-      (set-up ++ disc 0 ∷ disc 5 ∷ disc 1 ∷ restart ++ disc 1 ∷ read 0x9D ∷ transfer 14 1 ++ word ∷ write 0x17 0x04 ∷ word ∷ [])
-      (new 3)
-      ≡ ok ∷ ok ∷ ok ∷ ok ∷ replied 0 1 ∷ replied 8 0 ∷ ok ∷ ok ∷ ok ∷ replied 0 2 ∷ ok ∷ ok ∷ ok ∷ ok ∷ handed 256 ∷ ok ∷ handed 257 ∷ []
+      Gives M 3
+      (set-up ++ disc u 0 ∷ disc u 5 ∷ disc u 1 ∷ restart ++ disc u 1 ∷ read 0x9D ∷ transfer 14 1 ++ word ∷ write 0x17 0x04 ∷ word ∷ [])
+      (ok ∷ ok ∷ ok ∷ ok ∷ replied 0 1 ∷ replied 8 0 ∷ ok ∷ ok ∷ ok ∷ replied 0 2 ∷ ok ∷ ok ∷ ok ∷ ok ∷ handed 256 ∷ ok ∷ handed 257 ∷ [])
   -- SRST after the first of two words of frame 0: the next transfer hands over the same word, not that of frame 1
   pub aborted-in-block :
-      answers (set-up ++ disc 0 ∷ disc 1 ∷ transfer 14 2 ++ word ∷ srst ∷ command 0 ∷ write 0x17 0x04 ∷ word ∷ []) (new 3)
-      ≡ ok ∷ ok ∷ ok ∷ ok ∷ ok ∷ ok ∷ ok ∷ ok ∷ ok ∷ handed 256 ∷ ok ∷ ok ∷ ok ∷ handed 256 ∷ []
+      Gives M 3 (set-up ++ disc u 0 ∷ disc u 1 ∷ transfer 14 2 ++ word ∷ srst ∷ command 0 ∷ write 0x17 0x04 ∷ word ∷ [])
+      (ok ∷ ok ∷ ok ∷ ok ∷ ok ∷ ok ∷ ok ∷ ok ∷ ok ∷ handed 256 ∷ ok ∷ ok ∷ ok ∷ handed 256 ∷ [])
   -- a third sector: 9 with three blocks, stored with four
-  pub smaller-stops : answers (set-up ++ disc 0 ∷ disc 1 ∷ disc 2 ∷ []) (new 3) ≡ ok ∷ ok ∷ ok ∷ ok ∷ ok ∷ replied 9 0 ∷ []
-  pub larger-stores : answers (set-up ++ disc 0 ∷ disc 1 ∷ disc 2 ∷ []) (new 4) ≡ ok ∷ ok ∷ ok ∷ ok ∷ ok ∷ ok ∷ []
+  pub smaller-stops : Gives M 3 (set-up ++ disc u 0 ∷ disc u 1 ∷ disc u 2 ∷ []) (ok ∷ ok ∷ ok ∷ ok ∷ ok ∷ replied 9 0 ∷ [])
+  pub larger-stores : Gives M 4 (set-up ++ disc u 0 ∷ disc u 1 ∷ disc u 2 ∷ []) (ok ∷ ok ∷ ok ∷ ok ∷ ok ∷ ok ∷ [])
+
+abbrev pub MetClaim : Type 0
+MetClaim = (u : List ℕ) → length u ≡ 2352 → Met the-chip u

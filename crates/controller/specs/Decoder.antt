@@ -1,12 +1,12 @@
 -- A sector from the disc (paper 01, "The ring"; 001, BICCTL (9Ah), BUFC (9Bh), TCC (9Dh), TARSTA (80h)). Assumes nothing.
 use Prim.Native.Nat.{ℕ, _+_}
-use mathlib.Core.Bool.{Bool, true, _||_, not}
+use mathlib.Core.Bool.{Bool, true, not}
 use lib.Dec.{leb}
 use Rattle.laws.specs.Choice.{if_then_else_}
 use Rattle.sector.specs.Address.{next}
+use Rattle.sector.specs.Judge.{good, tarsta-byte}
 use Rattle.sector.specs.declared.Judgement.{Judgement}
 use Rattle.controller.specs.Fields.{_▹_, tcc≔, bufc≔, held≔, expected≔, judgement≔}
-use Rattle.controller.specs.Read.{tarsta-byte}
 use Rattle.controller.specs.Step.{replied}
 use Rattle.controller.specs.declared.state.Controller.{Controller}
 use Rattle.controller.specs.declared.step.Step.{Step}
@@ -28,6 +28,6 @@ admission c full =
 -- go up by 1, after a bad one the chip is held (H)
 unfoldable pub counted : Controller → Judgement → Step
 counted c j =
-    if j .staerr || j .hcei
-    then replied (c ▹ bufc≔ (c .counts .bufc + 1) ▹ judgement≔ j ▹ held≔ true) Store (tarsta-byte j)
-    else replied (c ▹ bufc≔ (c .counts .bufc + 1) ▹ judgement≔ j ▹ tcc≔ (c .counts .tcc + 1) ▹ expected≔ (next (c .expected))) Store (tarsta-byte j)
+    if good j
+    then replied (c ▹ bufc≔ (c .counts .bufc + 1) ▹ judgement≔ j ▹ tcc≔ (c .counts .tcc + 1) ▹ expected≔ (next (c .expected))) Store (tarsta-byte j)
+    else replied (c ▹ bufc≔ (c .counts .bufc + 1) ▹ judgement≔ j ▹ held≔ true) Store (tarsta-byte j)

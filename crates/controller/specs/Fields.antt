@@ -140,13 +140,13 @@ abbrev pub transfer≔ : Transfer → Controller → Controller
 transfer≔ v c = record { counts = c .counts; expected = c .expected; buffering = c .buffering; acctl = c .acctl; asctrl = c .asctrl; atsta = c .atsta; ascsta = c .ascsta; adsc = c .adsc; judgement = c .judgement; task = c .task; mbc = c .mbc; window = c .window; transfer = v; packet = c .packet; hirq = c .hirq }
 
 abbrev pub running≔ : Bool → Controller → Controller
-running≔ v c = transfer≔ (record { running = v; left = c .transfer .left; place = c .transfer .place }) c
+running≔ v c = transfer≔ (record { running = v; left = c .transfer .left; position = c .transfer .position }) c
 
 abbrev pub left≔ : ℕ → Controller → Controller
-left≔ v c = transfer≔ (record { running = c .transfer .running; left = v; place = c .transfer .place }) c
+left≔ v c = transfer≔ (record { running = c .transfer .running; left = v; position = c .transfer .position }) c
 
-abbrev pub place≔ : ℕ → Controller → Controller
-place≔ v c = transfer≔ (record { running = c .transfer .running; left = c .transfer .left; place = v }) c
+abbrev pub position≔ : ℕ → Controller → Controller
+position≔ v c = transfer≔ (record { running = c .transfer .running; left = c .transfer .left; position = v }) c
 
 abbrev pub packet≔ : Packet → Controller → Controller
 packet≔ v c = record { counts = c .counts; expected = c .expected; buffering = c .buffering; acctl = c .acctl; asctrl = c .asctrl; atsta = c .atsta; ascsta = c .ascsta; adsc = c .adsc; judgement = c .judgement; task = c .task; mbc = c .mbc; window = c .window; transfer = c .transfer; packet = v; hirq = c .hirq }

@@ -9,5 +9,4 @@ pub mod Write
 pub mod Named
 pub mod Decoder
 pub mod Host
-pub mod Sound
-pub mod Steady
+pub mod Calls

@@ -1,11 +1,12 @@
--- Reading a register (paper 01, "Registers"). 24h and 3Ah, which the ring's place answers, are not here. Assumes nothing.
+-- Reading a register (paper 01, "Registers"). T (24h) and the last decoded block (3Ah) are the ring's, which tells them. Assumes nothing.
 use Prim.Native.Nat.{ℕ, _+_}
 use lib.Dec.{eqb}
 use Rattle.laws.specs.Choice.{if_then_else_}
-use Rattle.sector.specs.declared.Judgement.{Judgement}
-use Rattle.controller.specs.Bits.{weight}
+use Rattle.laws.specs.Numbers.{weight}
+use Rattle.sector.specs.Judge.{tarsta-byte}
 use Rattle.controller.specs.Step.{refused, replied}
 use Rattle.controller.specs.declared.state.Controller.{Controller}
+use Rattle.controller.specs.declared.step.RingFacts.{RingFacts}
 use Rattle.controller.specs.declared.step.Step.{Step}
 use Rattle.controller.specs.declared.step.Event.the-variants.{Stay}
 
@@ -25,10 +26,6 @@ atsta-byte c =
     weight (c .atsta .bsy) 0x80 + weight (c .atsta .drdy) 0x40 + weight (c .atsta .dsc) 0x10
     + weight (c .atsta .drq) 0x08 + weight (c .atsta .corr) 0x04 + weight (c .atsta .check) 0x01
 
--- TARSTA (80h): STAERR in bit 6, HCEI in bit 0
-abbrev pub tarsta-byte : Judgement → ℕ
-tarsta-byte j = weight (j .staerr) 0x40 + weight (j .hcei) 0x01
-
 -- BICCTL (9Ah): bits 5 BLIMEN, 4 BLIMS
 abbrev pub bicctl-byte : Controller → ℕ
 bicctl-byte c = weight (c .buffering .blimen) 0x20 + weight (c .buffering .blims) 0x10
@@ -42,10 +39,11 @@ abbrev pub value : Controller → ℕ → Step
 value c v = replied c Stay v
 
 -- the registers that are read; the high bytes of T (25h) and of the last decoded block (3Bh) are 0 (H: 001 has both orders)
-unfoldable pub read : Controller → ℕ → Step
-read c reg =
+unfoldable pub read : Controller → ℕ → RingFacts → Step
+read c reg ring =
     if eqb reg 0x12 then value c (c .mbc)
     else if eqb reg 0x18 then value c (asctrl-byte c)
+    else if eqb reg 0x24 then value c (ring .t)
     else if eqb reg 0x25 then value c 0
     else if eqb reg 0x30 then value c (miss2-byte c)
     else if eqb reg 0x31 then value c (c .task .aterr)
@@ -54,6 +52,7 @@ read c reg =
     else if eqb reg 0x35 then value c (c .task .atbhi)
     else if eqb reg 0x37 then value c (c .task .atcmd)
     else if eqb reg 0x38 then value c (atsta-byte c)
+    else if eqb reg 0x3A then value c (ring .last)
     else if eqb reg 0x3B then value c 0
     else if eqb reg 0x80 then value c (tarsta-byte (c .judgement))
     else if eqb reg 0x9A then value c (bicctl-byte c)

@@ -19,7 +19,7 @@ initial =
       task = record { aterr = 0; atint = 0; atblo = 0x14; atbhi = 0xEB; atcmd = 0 };
       mbc = 0;
       window = record { offset = 0; words = 0 };
-      transfer = record { running = false; left = 0; place = 0 };
+      transfer = record { running = false; left = 0; position = 0 };
       packet = record { apkt = false; fpkt = false; receiving = false; received = 0; bytes = replicate 12 0 };
       hirq = false;
     }

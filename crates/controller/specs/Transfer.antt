@@ -1,10 +1,11 @@
 -- Transfers (paper 01, "Host and transfers"; 001, ASTRG (17h), ACCTL (9Ch), TTC (9Fh); SFF-8020 for the interrupt reasons). Assumes nothing.
 use Prim.Native.Nat.{ℕ, _+_, _-_, _*_, _/_, _%_, min}
 use mathlib.Core.Bool.{Bool, true, false, _&&_, _||_, not}
-use lib.Dec.{leb, eqb}
+use mathlib.Core.List.{[], _∷_}
+use lib.Dec.{ltb, eqb}
 use Rattle.laws.specs.Choice.{if_then_else_}
-use Rattle.controller.specs.Fields.{_▹_, mbc≔, atint≔, atblo≔, atbhi≔, bsy≔, drdy≔, drq≔, corr≔, check≔, hirq≔, running≔, left≔, place≔, apkten≔, ascen≔}
-use Rattle.controller.specs.Step.{refused, done}
+use Rattle.controller.specs.Fields.{_▹_, mbc≔, atint≔, atblo≔, atbhi≔, bsy≔, drdy≔, drq≔, corr≔, check≔, hirq≔, running≔, left≔, position≔, apkten≔, ascen≔}
+use Rattle.controller.specs.Step.{done, guarded}
 use Rattle.controller.specs.declared.state.Controller.{Controller}
 use Rattle.controller.specs.declared.step.Step.{Step}
 
@@ -20,46 +21,51 @@ start-switches c = c .acctl .acmen && c .asctrl .adcen && not (eqb (c .window .w
 abbrev pub limit : Controller → ℕ
 limit c = if eqb (c .acctl .atlim) 0 then 32 else c .acctl .atlim
 
--- the blocks of a start, MBC+1: by MBC where TTC is 0, else the least of ATLIM, TCC and TTC
-abbrev pub start-blocks : Controller → ℕ
-start-blocks c = if eqb (c .counts .ttc) 0 then c .mbc + 1 else min (limit c) (min (c .counts .tcc) (c .counts .ttc))
+-- if TTC is not 0, MBC takes the least of ATLIM, TCC and TTC, less 1
+abbrev pub start-mbc : Controller → ℕ
+start-mbc c = if eqb (c .counts .ttc) 0 then c .mbc else min (limit c) (min (c .counts .tcc) (c .counts .ttc)) - 1
 
--- there are so many good blocks
-abbrev pub enough-blocks : Controller → Bool
-enough-blocks c = not (eqb (c .counts .tcc) 0) && leb (start-blocks c) (c .counts .tcc)
+-- TCC is 0, or MBC+1 is above it
+abbrev pub blocks-lacking : Controller → Bool
+blocks-lacking c = eqb (c .counts .tcc) 0 || ltb (c .counts .tcc) (start-mbc c + 1)
 
--- with STWCEN 35h/34h take the low sixteen bits of the bytes of n blocks
-unfoldable pub byte-count : ℕ → Controller → Controller
-byte-count n c =
+-- with STWCEN 35h/34h take the low sixteen bits of (MBC+1) times words times 2
+unfoldable pub byte-count : Controller → Controller
+byte-count c =
     if not (c .asctrl .stwcen) then c
-    else c ▹ atblo≔ (n * c .window .words * 2 % 256) ▹ atbhi≔ (n * c .window .words * 2 / 256 % 256)
+    else c ▹ atblo≔ ((c .mbc + 1) * c .window .words * 2 % 256) ▹ atbhi≔ ((c .mbc + 1) * c .window .words * 2 / 256 % 256)
 
--- n blocks begin to be transferred: MBC is n-1, 32h=02h, DRQ=1, BSY=0, HIRQ=1
-abbrev pub begun : ℕ → Controller → Controller
-begun n c =
-    c ▹ mbc≔ (n - 1) ▹ atint≔ 2 ▹ drq≔ true ▹ bsy≔ false ▹ hirq≔ true ▹ running≔ true ▹ left≔ n ▹ place≔ 0
+-- MBC+1 blocks begin to be transferred: 32h=02h, DRQ=1, BSY=0, HIRQ=1
+abbrev pub begun : Controller → Controller
+begun c = c ▹ atint≔ 2 ▹ drq≔ true ▹ bsy≔ false ▹ hirq≔ true ▹ running≔ true ▹ left≔ (c .mbc + 1) ▹ position≔ 0
 
 -- a start whose needs hold
 abbrev pub started : Controller → Controller
-started c = begun (start-blocks c) (byte-count (start-blocks c) c)
+started c = begun (byte-count (c ▹ mbc≔ (start-mbc c)))
 
 -- the start by 17h, where it is not barred
 unfoldable pub start : Controller → Step
 start c =
-    if not (start-switches c) then refused c 5
-    else if not (enough-blocks c) then refused c 6
-    else done (started c)
+    guarded c ((not (start-switches c), 5) ∷ (blocks-lacking c, 6) ∷ [])
+    (done (started c))
 
--- the start that follows an accepted call by itself
-unfoldable pub start-due : Controller → Bool
-start-due c =
-    c .acctl .atten && not (eqb (c .counts .ttc) 0) && not (engaged c) && start-switches c && enough-blocks c
-
+-- after an accepted call the same start happens by itself with ATTEN and TTC set and nothing running; one that is refused, as with TCC 0,
+-- changes nothing
 unfoldable pub settled : Controller → Controller
-settled c = if start-due c then started c else c
+settled c = if c .acctl .atten && not (eqb (c .counts .ttc) 0) && not (engaged c) then start c .controller else c
+
+-- the end of every call: an accepted one lets a start follow
+unfoldable pub concluded : Step → Step
+concluded s =
+    if eqb (s .reply .number) 0 then record { controller = settled (s .controller); event = s .event; reply = s .reply }
+    else s
 
 -- status completion: CHECK, CORR, DRDY from 3Eh; DRQ=0; 32h=03h; BSY=0; HIRQ=1; APKTEN=1 if AUTOEN; ASCEN=0
 abbrev pub completed : Controller → Controller
 completed c =
     c ▹ check≔ (c .ascsta .check) ▹ corr≔ (c .ascsta .corr) ▹ drdy≔ (c .ascsta .drdy) ▹ drq≔ false
     ▹ atint≔ 3 ▹ bsy≔ false ▹ hirq≔ true ▹ apkten≔ (c .asctrl .apkten || c .asctrl .autoen) ▹ ascen≔ false
+
+-- the ATAPI signature: 34h=14h, 35h=EBh; status keeps BSY and DSC, the rest 0
+abbrev pub signed : Controller → Controller
+signed c = c ▹ atblo≔ 0x14 ▹ atbhi≔ 0xEB ▹ drdy≔ false ▹ drq≔ false ▹ corr≔ false ▹ check≔ false

@@ -1,5 +1,4 @@
 // A sector from the disc: admitted before a byte of it is moved, counted once it is stored and judged.
-use crate::read::tarsta;
 use crate::state::Controller;
 use crate::step::Event;
 use crate::step::Step;
@@ -39,19 +38,19 @@ impl Controller {
         requires { ⌜ (self .counts .tcc < 255) × (self .counts .bufc < 255) ⌝ }
         ensures { λ r. ⌜ r ≡ counted self judgement ⌝ }
     {
-        let shown = tarsta(judgement);
+        let shown = judgement.tarsta();
         let bufc = self.counts.bufc + 1;
         self.counts.bufc = bufc;
         self.judgement = judgement;
-        if judgement.staerr | judgement.hcei {
-            self.counts.held = true;
+        if judgement.good() {
+            let tcc = self.counts.tcc + 1;
+            let expected = self.expected;
+            let next = expected.next();
+            self.counts.tcc = tcc;
+            self.expected = next;
             return replied(self, Event::Store, shown);
         }
-        let tcc = self.counts.tcc + 1;
-        let expected = self.expected;
-        let next = expected.next();
-        self.counts.tcc = tcc;
-        self.expected = next;
+        self.counts.held = true;
         replied(self, Event::Store, shown)
     }
 }

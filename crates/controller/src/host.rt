@@ -7,7 +7,7 @@ use crate::step::Step;
 use crate::step::done;
 use crate::step::refuse;
 use crate::step::replied;
-use crate::write::less;
+use numbers::less;
 ghost use mathlib.Core.Path.{_≡_};
 ghost use Prim.Native.Nat.{_<_};
 ghost use Rattle.controller.specs.Host.{data-ended, ended, block-taken, host-word, packet-begun, host-command, packet-more, packet-word, host-status, host-srst};
@@ -45,7 +45,7 @@ impl Controller {
         self.counts.bufc = bufc;
         self.counts.ttc = ttc;
         self.transfer.left = left;
-        self.transfer.place = 0;
+        self.transfer.position = 0;
         self
     }
 
@@ -55,10 +55,10 @@ impl Controller {
         if !self.transfer.running {
             return refuse(self, 5);
         }
-        // Wider than a place, so that the sum never wraps.
-        if self.transfer.place as u32 + 1 < self.window.words as u32 {
-            let place = self.transfer.place + 1;
-            self.transfer.place = place;
+        // Wider than a position, so that the sum never wraps.
+        if self.transfer.position as u32 + 1 < self.window.words as u32 {
+            let position = self.transfer.position + 1;
+            self.transfer.position = position;
             return done(self);
         }
         if self.transfer.left > 1 {
@@ -162,20 +162,14 @@ impl Controller {
     {
         self.transfer.running = false;
         self.transfer.left = 0;
-        self.transfer.place = 0;
+        self.transfer.position = 0;
         self.packet.receiving = false;
         self.packet.received = 0;
         self.counts.ttc = 0;
+        self.atsta.bsy = false;
         self.hirq = false;
         self.packet.apkt = false;
         self.packet.fpkt = false;
-        self.atsta.bsy = false;
-        self.atsta.drdy = false;
-        self.atsta.drq = false;
-        self.atsta.corr = false;
-        self.atsta.check = false;
-        self.task.atblo = 0x14;
-        self.task.atbhi = 0xEB;
-        done(self)
+        done(self.signed())
     }
 }

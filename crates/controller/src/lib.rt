@@ -1,16 +1,16 @@
 // The controller: counters, switches, host registers, transfers and packets of the W88113C as paper 01 has them.
-// No step sees the number of blocks: each call answers a step, whose event says what becomes of the ring. Only the test of soundness is told it.
+// Each call answers a step, whose event says what becomes of the ring; of the ring a call is told no more than `RingFacts`.
 mod decoder;
+mod dispatch;
 mod host;
 mod named;
 mod read;
-mod sound;
 mod state;
 mod step;
 mod transfer;
 mod write;
 
-pub use read::tarsta;
+pub use named::window_fits;
 pub use state::Acctl;
 pub use state::Ascsta;
 pub use state::Asctrl;
@@ -23,5 +23,5 @@ pub use state::Task;
 pub use state::Transfer;
 pub use state::Window;
 pub use step::Event;
+pub use step::RingFacts;
 pub use step::Step;
-pub use step::replied;

@@ -6,7 +6,7 @@ use crate::step::Step;
 use crate::step::done;
 use crate::step::refuse;
 use crate::step::replied;
-use crate::step::wide;
+use numbers::wide;
 use sector::Address;
 ghost use mathlib.Core.Path.{_≡_};
 ghost use Rattle.controller.specs.Named.{set-block, window-fits, set-window, set-expected, packet-byte, reset};
@@ -18,11 +18,11 @@ pub fn window_fits(offset: u16, words: u16) -> bool
 }
 
 impl Controller {
-    // fits: the ring has the block.
-    pub fn set_block(self, block: u16, fits: bool) -> Step
-        ensures { λ r. ⌜ r ≡ set-block self block fits ⌝ }
+    // n is the number of blocks.
+    pub fn set_block(self, block: u16, n: u16) -> Step
+        ensures { λ r. ⌜ r ≡ set-block self block n ⌝ }
     {
-        if !fits {
+        if n <= block {
             return refuse(self, 3);
         }
         if self.transfer.running {

@@ -1,31 +1,14 @@
-// Reading registers. 24h and 3Ah are the ring's to answer.
+// Reading registers. 24h and 3Ah are the ring's, which tells them.
 use crate::state::Controller;
 use crate::step::Event;
+use crate::step::RingFacts;
 use crate::step::Step;
 use crate::step::refuse;
 use crate::step::replied;
-use crate::step::wide;
-use sector::Judgement;
+use numbers::weight;
+use numbers::wide;
 ghost use mathlib.Core.Path.{_≡_};
-ghost use Prim.Native.Nat.{_≤_};
-ghost use Rattle.controller.specs.Bits.{weight};
-ghost use Rattle.controller.specs.Read.{asctrl-byte, miss2-byte, atsta-byte, tarsta-byte, bicctl-byte, acctl-byte, value, read};
-
-fn weight(on: bool, w: u16) -> u16
-    ensures { λ r. ⌜ (r ≡ weight on w) × (r ≤ w) ⌝ }
-{
-    if on {
-        return w;
-    }
-    0
-}
-
-// TARSTA (80h) of a judgement.
-pub fn tarsta(judgement: Judgement) -> u16
-    ensures { λ r. ⌜ r ≡ tarsta-byte judgement ⌝ }
-{
-    weight(judgement.staerr, 0x40) + weight(judgement.hcei, 0x01)
-}
+ghost use Rattle.controller.specs.Read.{asctrl-byte, miss2-byte, atsta-byte, bicctl-byte, acctl-byte, value, read};
 
 impl Controller {
     fn asctrl_byte(self) -> u16
@@ -71,13 +54,14 @@ impl Controller {
             + wide(self.acctl.atlim)
     }
 
-    pub fn read(self, reg: u16) -> Step
-        ensures { λ r. ⌜ r ≡ read self reg ⌝ }
+    pub fn read(self, reg: u16, ring: RingFacts) -> Step
+        ensures { λ r. ⌜ r ≡ read self reg ring ⌝ }
     {
         let judgement = self.judgement;
         match reg {
             0x12 => replied(self, Event::Stay, wide(self.mbc)),
             0x18 => replied(self, Event::Stay, self.asctrl_byte()),
+            0x24 => replied(self, Event::Stay, ring.t),
             0x25 => replied(self, Event::Stay, 0),
             0x30 => replied(self, Event::Stay, self.miss2_byte()),
             0x31 => replied(self, Event::Stay, wide(self.task.aterr)),
@@ -86,8 +70,9 @@ impl Controller {
             0x35 => replied(self, Event::Stay, wide(self.task.atbhi)),
             0x37 => replied(self, Event::Stay, wide(self.task.atcmd)),
             0x38 => replied(self, Event::Stay, self.atsta_byte()),
+            0x3A => replied(self, Event::Stay, ring.last),
             0x3B => replied(self, Event::Stay, 0),
-            0x80 => replied(self, Event::Stay, tarsta(judgement)),
+            0x80 => replied(self, Event::Stay, judgement.tarsta()),
             0x9A => replied(self, Event::Stay, self.bicctl_byte()),
             0x9B => replied(self, Event::Stay, self.counts.bufc),
             0x9C => replied(self, Event::Stay, self.acctl_byte()),

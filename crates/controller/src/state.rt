@@ -70,11 +70,11 @@ pub struct Window {
     pub words: u16,
 }
 
-// left: blocks of the transfer not yet read whole. place: words read of the present one.
+// left: blocks of the transfer not yet read whole. position: words read of the present one.
 pub struct Transfer {
     pub running: bool,
     pub left: u16,
-    pub place: u16,
+    pub position: u16,
 }
 
 // APKT and FPKT of MISS2 (30h), the packet's bytes, and how many words of it have come.
@@ -233,6 +233,6 @@ fn no_transfer() -> Transfer
     Transfer {
         running: false,
         left: 0,
-        place: 0,
+        position: 0,
     }
 }

@@ -1,8 +1,7 @@
 // What a controller call answers: the controller afterwards, what becomes of the ring, and the reply.
 use crate::state::Controller;
-use sector::Reply;
+use reply::Reply;
 ghost use mathlib.Core.Path.{_≡_};
-ghost use Prim.Native.Nat.{_<_};
 ghost use Rattle.controller.specs.Step.{refused, done, replied};
 
 // Stay: the ring is as it was. Store: block B was filled, B goes on. Advance: T goes on by so many blocks.
@@ -14,6 +13,13 @@ pub enum Event {
     Rewind(u16),
     Move(u16),
     Clear,
+}
+
+// What a call is told of the ring: the number of blocks, which bounds BUFLIM and T, and the block numbers that are read.
+pub struct RingFacts {
+    pub n: u16,
+    pub t: u16,
+    pub last: u16,
 }
 
 pub struct Step {
@@ -59,11 +65,4 @@ pub fn replied(controller: Controller, event: Event, result: u16) -> Step
             result: result,
         },
     }
-}
-
-// A byte of the state as a result.
-pub fn wide(byte: u8) -> u16
-    ensures { λ r. ⌜ (r ≡ byte) × (r < 256) ⌝ }
-{
-    byte as u16
 }

@@ -1,22 +1,14 @@
-// Transfers: the start, by 17h or by itself, and status completion.
+// Transfers: the start, by 17h or by itself, status completion and the signature.
 use crate::state::Controller;
 use crate::step::Step;
 use crate::step::done;
 use crate::step::refuse;
-use crate::step::wide;
+use numbers::least;
+use numbers::less;
+use numbers::wide;
 ghost use mathlib.Core.Path.{_≡_};
-ghost use mathlib.Core.Bool.{true};
-ghost use Prim.Native.Nat.{_≤_, _<_, min};
-ghost use Rattle.controller.specs.Transfer.{engaged, start-switches, limit, start-blocks, enough-blocks, byte-count, begun, started, start, start-due, settled, completed};
-
-fn least(a: u16, b: u16) -> u16
-    ensures { λ r. ⌜ r ≡ min a b ⌝ }
-{
-    if a < b {
-        return a;
-    }
-    b
-}
+ghost use Prim.Native.Nat.{_<_};
+ghost use Rattle.controller.specs.Transfer.{engaged, start-switches, limit, start-mbc, blocks-lacking, byte-count, begun, start, settled, concluded, completed, signed};
 
 impl Controller {
     pub fn engaged(self) -> bool
@@ -40,30 +32,30 @@ impl Controller {
         wide(self.acctl.atlim)
     }
 
-    // How many blocks a start would transfer.
-    fn start_blocks(self) -> u16
-        ensures { λ r. ⌜ (r ≡ start-blocks self) × (r ≤ 256) ⌝ }
+    // The MBC with which a start begins.
+    fn start_mbc(self) -> u8
+        ensures { λ r. ⌜ r ≡ start-mbc self ⌝ }
     {
         if self.counts.ttc == 0 {
-            return wide(self.mbc) + 1;
+            return self.mbc;
         }
-        least(self.limit(), least(self.counts.tcc, self.counts.ttc))
+        let blocks = least(self.limit(), least(self.counts.tcc, self.counts.ttc));
+        less(blocks, 1) as u8
     }
 
-    fn enough_blocks(self) -> bool
-        ensures { λ r. ⌜ r ≡ enough-blocks self ⌝ }
+    fn blocks_lacking(self) -> bool
+        ensures { λ r. ⌜ r ≡ blocks-lacking self ⌝ }
     {
-        !(self.counts.tcc == 0) & (self.start_blocks() <= self.counts.tcc)
+        (self.counts.tcc == 0) | (self.counts.tcc < wide(self.start_mbc()) + 1)
     }
 
-    fn byte_count(mut self, blocks: u16) -> Controller
-        requires { ⌜ blocks ≤ 256 ⌝ }
-        ensures { λ r. ⌜ r ≡ byte-count blocks self ⌝ }
+    fn byte_count(mut self) -> Controller
+        ensures { λ r. ⌜ r ≡ byte-count self ⌝ }
     {
         if !self.asctrl.stwcen {
             return self;
         }
-        let bytes = blocks as u32 * self.window.words as u32 * 2;
+        let bytes = (self.mbc as u32 + 1) * self.window.words as u32 * 2;
         let low = (bytes % 256) as u8;
         let high = (bytes / 256 % 256) as u8;
         self.task.atblo = low;
@@ -71,59 +63,43 @@ impl Controller {
         self
     }
 
-    fn begun(mut self, blocks: u16) -> Controller
-        requires { ⌜ (0 < blocks) × (blocks ≤ 256) ⌝ }
-        ensures { λ r. ⌜ r ≡ begun blocks self ⌝ }
+    fn begun(mut self) -> Controller
+        ensures { λ r. ⌜ r ≡ begun self ⌝ }
     {
-        let mbc = (blocks - 1) as u8;
-        self.mbc = mbc;
+        let blocks = self.mbc as u16 + 1;
         self.task.atint = 2;
         self.atsta.drq = true;
         self.atsta.bsy = false;
         self.hirq = true;
         self.transfer.running = true;
         self.transfer.left = blocks;
-        self.transfer.place = 0;
+        self.transfer.position = 0;
         self
     }
 
-    fn started(self) -> Controller
-        requires { ⌜ enough-blocks self ≡ true ⌝ }
-        ensures { λ r. ⌜ r ≡ started self ⌝ }
-    {
-        let blocks = self.start_blocks();
-        self.byte_count(blocks).begun(blocks)
-    }
-
     // ASTRG (17h) 04h, where it is not barred.
-    pub fn start(self) -> Step
+    pub fn start(mut self) -> Step
         ensures { λ r. ⌜ r ≡ start self ⌝ }
     {
         if !self.start_switches() {
             return refuse(self, 5);
         }
-        if !self.enough_blocks() {
+        if self.blocks_lacking() {
             return refuse(self, 6);
         }
-        done(self.started())
-    }
-
-    fn start_due(self) -> bool
-        ensures { λ r. ⌜ r ≡ start-due self ⌝ }
-    {
-        self.acctl.atten
-            & !(self.counts.ttc == 0)
-            & !self.engaged()
-            & self.start_switches()
-            & self.enough_blocks()
+        let mbc = self.start_mbc();
+        self.mbc = mbc;
+        done(self.byte_count().begun())
     }
 
     // What follows an accepted call by itself.
-    pub fn settle(self) -> Controller
+    fn settle(self) -> Controller
         ensures { λ r. ⌜ r ≡ settled self ⌝ }
     {
-        if self.start_due() {
-            return self.started();
+        if self.acctl.atten & !(self.counts.ttc == 0) & !self.engaged() {
+            let step = self.start();
+            let controller = step.controller;
+            return controller;
         }
         self
     }
@@ -143,6 +119,35 @@ impl Controller {
         let apkten = self.asctrl.apkten | self.asctrl.autoen;
         self.asctrl.apkten = apkten;
         self.asctrl.ascen = false;
+        self
+    }
+
+    // The ATAPI signature, by ASTRG (17h) 10h or SRST.
+    pub fn signed(mut self) -> Controller
+        ensures { λ r. ⌜ r ≡ signed self ⌝ }
+    {
+        self.task.atblo = 0x14;
+        self.task.atbhi = 0xEB;
+        self.atsta.drdy = false;
+        self.atsta.drq = false;
+        self.atsta.corr = false;
+        self.atsta.check = false;
+        self
+    }
+}
+
+impl Step {
+    // The end of every call: an accepted one lets a start follow.
+    pub fn conclude(mut self) -> Step
+        ensures { λ r. ⌜ r ≡ concluded self ⌝ }
+    {
+        let reply = self.reply;
+        if reply.number == 0 {
+            let controller = self.controller;
+            let settled = controller.settle();
+            self.controller = settled;
+            return self;
+        }
         self
     }
 }

@@ -3,16 +3,15 @@ use crate::state::Acctl;
 use crate::state::Ascsta;
 use crate::state::Asctrl;
 use crate::state::Controller;
+use crate::state::Task;
 use crate::step::Event;
 use crate::step::Step;
 use crate::step::done;
 use crate::step::refuse;
 use crate::step::replied;
+use numbers::less;
 ghost use mathlib.Core.Path.{_≡_};
-ghost use Prim.Native.Nat.{_-_, _≤_};
-ghost use Rattle.controller.specs.Step.{done};
-ghost use mathlib.Core.Bool.{true};
-ghost use Rattle.controller.specs.Write.{write-tack, decoder-off, write-ctrl0, write-mbtc0, signed, write-astrg, write-asctrl, write-aterr, write-atint, write-atblo, write-atbhi, write-atsta, write-apksta, write-ascsta, write-bicctl, write-buflim, write-acctl, write-tcc, write-skipc, write-ttc, write};
+ghost use Rattle.controller.specs.Write.{write-tack, decoder-off, write-ctrl0, write-mbtc0, write-astrg, write-asctrl, with-task, write-task, write-atsta, write-apksta, write-ascsta, write-bicctl, write-buflim, write-acctl, write-tcc, write-skipc, write-ttc, write};
 
 impl Controller {
     fn write_tack(mut self, value: u16) -> Step
@@ -65,18 +64,6 @@ impl Controller {
         done(self)
     }
 
-    fn signed(mut self) -> Step
-        ensures { λ r. ⌜ r ≡ done (signed self) ⌝ }
-    {
-        self.task.atblo = 0x14;
-        self.task.atbhi = 0xEB;
-        self.atsta.drdy = false;
-        self.atsta.drq = false;
-        self.atsta.corr = false;
-        self.atsta.check = false;
-        done(self)
-    }
-
     fn write_astrg(self, value: u16) -> Step
         ensures { λ r. ⌜ r ≡ write-astrg self value ⌝ }
     {
@@ -92,7 +79,7 @@ impl Controller {
         if value == 0x04 {
             return self.start();
         }
-        self.signed()
+        done(self.signed())
     }
 
     fn write_asctrl(mut self, value: u16) -> Step
@@ -121,47 +108,15 @@ impl Controller {
         done(self)
     }
 
-    fn write_aterr(mut self, value: u16) -> Step
-        ensures { λ r. ⌜ r ≡ write-aterr self value ⌝ }
+    fn write_task(mut self, reg: u16, value: u16) -> Step
+        ensures { λ r. ⌜ r ≡ write-task self reg value ⌝ }
     {
         if value > 255 {
             return refuse(self, 3);
         }
-        let byte = value as u8;
-        self.task.aterr = byte;
-        done(self)
-    }
-
-    fn write_atint(mut self, value: u16) -> Step
-        ensures { λ r. ⌜ r ≡ write-atint self value ⌝ }
-    {
-        if value > 255 {
-            return refuse(self, 3);
-        }
-        let byte = value as u8;
-        self.task.atint = byte;
-        done(self)
-    }
-
-    fn write_atblo(mut self, value: u16) -> Step
-        ensures { λ r. ⌜ r ≡ write-atblo self value ⌝ }
-    {
-        if value > 255 {
-            return refuse(self, 3);
-        }
-        let byte = value as u8;
-        self.task.atblo = byte;
-        done(self)
-    }
-
-    fn write_atbhi(mut self, value: u16) -> Step
-        ensures { λ r. ⌜ r ≡ write-atbhi self value ⌝ }
-    {
-        if value > 255 {
-            return refuse(self, 3);
-        }
-        let byte = value as u8;
-        self.task.atbhi = byte;
+        let task = self.task;
+        let next = task.with(reg, value as u8);
+        self.task = next;
         done(self)
     }
 
@@ -231,10 +186,11 @@ impl Controller {
         done(self)
     }
 
-    fn write_buflim(mut self, value: u16, fits: bool) -> Step
-        ensures { λ r. ⌜ r ≡ write-buflim self value fits ⌝ }
+    // Wider than a value, so that the sum never wraps.
+    fn write_buflim(mut self, value: u16, n: u16) -> Step
+        ensures { λ r. ⌜ r ≡ write-buflim self value n ⌝ }
     {
-        if !fits {
+        if (n as u32) < value as u32 + 2 {
             return refuse(self, 3);
         }
         if self.buffering.decen {
@@ -332,9 +288,9 @@ impl Controller {
         done(self)
     }
 
-    // fits: the ring takes the value as its BUFLIM.
-    pub fn write(self, reg: u16, value: u16, fits: bool) -> Step
-        ensures { λ r. ⌜ r ≡ write self reg value fits ⌝ }
+    // n is the number of blocks.
+    pub fn write(self, reg: u16, value: u16, n: u16) -> Step
+        ensures { λ r. ⌜ r ≡ write self reg value n ⌝ }
     {
         match reg {
             0x07 => self.write_tack(value),
@@ -342,15 +298,15 @@ impl Controller {
             0x12 => self.write_mbtc0(value),
             0x17 => self.write_astrg(value),
             0x18 => self.write_asctrl(value),
-            0x31 => self.write_aterr(value),
-            0x32 => self.write_atint(value),
-            0x34 => self.write_atblo(value),
-            0x35 => self.write_atbhi(value),
+            0x31 => self.write_task(reg, value),
+            0x32 => self.write_task(reg, value),
+            0x34 => self.write_task(reg, value),
+            0x35 => self.write_task(reg, value),
             0x37 => self.write_atsta(value),
             0x3D => self.write_apksta(value),
             0x3E => self.write_ascsta(value),
             0x9A => self.write_bicctl(value),
-            0x9B => self.write_buflim(value, fits),
+            0x9B => self.write_buflim(value, n),
             0x9C => self.write_acctl(value),
             0x9D => self.write_tcc(value),
             0x9E => self.write_skipc(value),
@@ -360,12 +316,24 @@ impl Controller {
     }
 }
 
-// a less b, not below 0
-pub fn less(a: u16, b: u16) -> u16
-    ensures { λ r. ⌜ r ≡ a - b ⌝ }
-{
-    if a < b {
-        return 0;
+impl Task {
+    // One of the four registers; ATBHI (35h) where it is none of the others.
+    fn with(mut self, reg: u16, byte: u8) -> Task
+        ensures { λ r. ⌜ r ≡ with-task self reg byte ⌝ }
+    {
+        if reg == 0x31 {
+            self.aterr = byte;
+            return self;
+        }
+        if reg == 0x32 {
+            self.atint = byte;
+            return self;
+        }
+        if reg == 0x34 {
+            self.atblo = byte;
+            return self;
+        }
+        self.atbhi = byte;
+        self
     }
-    a - b
 }

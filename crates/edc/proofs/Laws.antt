@@ -1,8 +1,8 @@
--- The laws of `edc` for callers: runs one after another, the code's width, and its linearity in the register and in the data.
+-- The laws of `edc` for callers: a run from what is left of it, the code's width, and its linearity in the register.
 -- That a slice holds bytes, `Bytes`, is shown by what the borrow checker knows of its elements,
 -- `λ i. c .shared-slice-known .given i .fits`. Assumes nothing.
-use mathlib.Core.Path.{_≡_, refl, sym, ap, ap₂, _∙_}
-use mathlib.Core.List.{List, [], _∷_, _++_}
+use mathlib.Core.Path.{_≡_, refl, sym, ap, _∙_}
+use mathlib.Core.List.{List, [], _∷_}
 use Prim.Native.Nat.{ℕ, zero, suc, _+_, _*_, _/_, _%_, _^_, _<_, _≤_}
 use native.Mathlib.Numerals.{add-one}
 use native.Mathlib.Omega.{arith}
@@ -10,16 +10,10 @@ use lib.ListN.{length, getD, drop, drop-of-length-le}
 use lib.Seq.{drop-cons}
 use lib.Bits.{bitXor, differ, xor-zero-r, xor-lt}
 use Rattle.laws.specs.Bytes.{Bytes}
-use Rattle.laws.proofs.Xor.{xor-assoc, xor-four, differ-lt, odd-lt}
+use Rattle.laws.proofs.Xor.{xor-assoc, differ-lt, odd-lt}
 use Rattle.edc.specs.Edc.{feedback, feedback-is, fed1, fed, edc}
 use Rattle.edc.specs.Lanes.{shifts}
 use Rattle.edc.proofs.Shifts.{fed-xor, shifts-xor, shifts-add}
-
--- one run after another
-pub edc-append : (r : ℕ) (s t : List ℕ) → edc r (s ++ t) ≡ edc (edc r s) t
-unfolding edc
-edc-append r [] t = refl
-edc-append r (b ∷ s) t = edc-append (fed 8 r b) s t
 
 -- a run is fed from what is left of it
 pub edc-drop : (s : List ℕ) (r i : ℕ) → i < length s → edc r (drop i s) ≡ edc (fed 8 r (getD s i 0)) (drop (i + 1) s)
@@ -65,24 +59,3 @@ edc-xor p q (b ∷ s) h =
 
 pub edc-from : (p : ℕ) (s : List ℕ) → Bytes s → edc p s ≡ bitXor (shifts (8 * length s) p) (edc 0 s)
 edc-from p s h = ap (λ (x : ℕ). edc x s) (sym (xor-zero-r p)) ∙ edc-xor p 0 s h
-
--- linear in the data: two lists of one length, element by element
-abbrev pub xors : List ℕ → List ℕ → List ℕ
-xors [] t = []
-xors (a ∷ s) [] = []
-xors (a ∷ s) (b ∷ t) = bitXor a b ∷ xors s t
-
-edc-xors-from : (p q : ℕ) (s t : List ℕ) → Bytes s → Bytes t → length s ≡ length t
-    → edc (bitXor p q) (xors s t) ≡ bitXor (edc p s) (edc q t)
-unfolding edc
-edc-xors-from p q [] [] hs ht e = refl
-edc-xors-from p q [] (b ∷ t) hs ht e = let z : ⊥ = omega arith in absurd z
-edc-xors-from p q (a ∷ s) [] hs ht e = let z : ⊥ = omega arith in absurd z
-edc-xors-from p q (a ∷ s) (b ∷ t) hs ht e =
-    ap (λ (x : ℕ). edc x (xors s t))
-    (fed-xor 8 (bitXor p q) (bitXor a b) (xor-lt 8 a b (hs 0) (ht 0)) ∙ ap (shifts 8) (xor-four p q a b)
-    ∙ shifts-xor 8 (bitXor p a) (bitXor q b) ∙ sym (ap₂ bitXor (fed-xor 8 p a (hs 0)) (fed-xor 8 q b (ht 0))))
-    ∙ edc-xors-from (fed 8 p a) (fed 8 q b) s t (λ i. hs (suc i)) (λ i. ht (suc i)) (omega arith)
-
-pub edc-xors : (s t : List ℕ) → Bytes s → Bytes t → length s ≡ length t → edc 0 (xors s t) ≡ bitXor (edc 0 s) (edc 0 t)
-edc-xors s t hs ht e = edc-xors-from 0 0 s t hs ht e

@@ -1,4 +1,4 @@
--- The register moved on with no data: linear over xor, of 32 bits, and invertible, since the generator's lowest coefficient is 1.
+-- The register moved on with no data: linear over xor, and invertible, since the generator's lowest coefficient is 1.
 -- Assumes nothing.
 use mathlib.Core.Path.{_≡_, refl, sym, ap, ap₂, _∙_, subst}
 use Prim.Native.Nat.{ℕ, zero, suc, _+_, _*_, _/_, _%_, _^_, _<_}
@@ -69,11 +69,6 @@ shifts-split k x =
 shift-lt : (x : ℕ) → x < 2 ^ 32 → shift x < 2 ^ 32
 unfolding shift
 shift-lt x h = xor-lt 32 (x / 2) (x % 2 * feedback) (omega arith) (rw feedback-is (omega (arith, odd-lt x)))
-
-pub shifts-lt : (k x : ℕ) → x < 2 ^ 32 → shifts k x < 2 ^ 32
-unfolding shifts
-shifts-lt zero x h = h
-shifts-lt (suc k) x h = shifts-lt k (shift x) (shift-lt x h)
 
 pub same-of-xor : (a b : ℕ) → bitXor a b ≡ 0 → a ≡ b
 same-of-xor a b e = sym (xor-cancel a b) ∙ ap (λ (x : ℕ). bitXor x b) e ∙ xor-zero-l b

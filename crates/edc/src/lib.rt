@@ -124,6 +124,7 @@ fn close(t: &[u32; 1280], s: &[u8], l: Lanes) -> u32
 }
 
 // The error detection code of the bytes, whatever their number.
+// Ruled out: one that feeds the highest bit of a byte first, and one that leaves out what is over after whole runs of 16 bytes.
 pub fn edc(bytes: &[u8]) -> u32
     ensures { λ r. ⌜ r ≡ edc 0 (now (bytes .entry)) ⌝ }
 {

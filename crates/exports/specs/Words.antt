@@ -1,14 +1,15 @@
 -- What each exported call returns: a reply as one number, the reply number in the low byte and the result above it (paper 01, "Reply
--- numbers"). What a call leaves in the sector is sector's to say. Assumes nothing.
+-- numbers"). What a call leaves in the sector is sector's to say, and what lines leave script's. Assumes nothing.
 use mathlib.Core.List.{List}
 use Prim.Native.Nat.{ℕ, _+_, _*_}
 use Rattle.sector.specs.declared.Address.{Address}
-use Rattle.sector.specs.declared.Reply.{Reply}
+use Rattle.reply.specs.declared.Reply.{Reply}
 use Rattle.sector.specs.declared.Judged.{Judged}
 use Rattle.sector.specs.Calls.{seal-reply, open-reply, judge-answer}
-use Rattle.controller.specs.Read.{tarsta-byte}
-use Rattle.script.specs.Bench.{started}
-use Rattle.script.specs.Feed.{Progress, fed-text}
+use Rattle.sector.specs.Judge.{tarsta-byte}
+use Rattle.script.specs.Bench.{Left, started}
+use Rattle.script.specs.Feed.{fed-text}
+use Rattle.script.specs.declared.lines.Fed.{Fed}
 
 abbrev pub at : ℕ → ℕ → ℕ → Address
 at minute second frame = record { minute = minute; second = second; frame = frame }
@@ -32,6 +33,10 @@ open-word s = reply-word (open-reply s)
 abbrev pub judge-word : List ℕ → Address → ℕ
 judge-word s a = judged-word (judge-answer s a)
 
+-- what lines leave, with the length of their answers as the result
+abbrev pub with-size : Left Fed → Left ℕ
+with-size f = record { result = f .result .size; memory = f .memory; sector = f .sector; out = f .out }
+
 -- a run of the bench over a text, from its start
-abbrev pub bench-run : List ℕ → List ℕ → List ℕ → List ℕ → Progress
-bench-run memory sector text out = fed-text started memory sector text out
+abbrev pub bench-run : List ℕ → List ℕ → List ℕ → List ℕ → Left ℕ
+bench-run memory sector text out = with-size (fed-text started memory sector text out)

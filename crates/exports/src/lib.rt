@@ -1,12 +1,9 @@
 // The calls on sectors, and the bench, for C and Rust; include/cdrom.h declares them and says what a C caller must keep. A slice is passed
 // as a pointer and then a length. None has a precondition: any bytes, of any number, and any address are answered, and a refusal changes no byte.
 ghost use mathlib.Core.Path.{_≡_};
-ghost use lib.ListN.{length};
 ghost use Rattle.edc.specs.Edc.{edc};
 ghost use Rattle.sector.specs.Calls.{seal-sector, open-sector};
-ghost use Rattle.script.specs.Feed.{fed-out};
 ghost use Rattle.exports.specs.Words.{at, packed, seal-word, open-word, judge-word, bench-run};
-use controller::tarsta;
 use script::Bench;
 use sector::Address;
 
@@ -54,7 +51,8 @@ pub extern "C" fn cdrom_judge(sector: &[u8], minute: u16, second: u16, frame: u1
     ensures { λ r. ⌜ r ≡ judge-word (now (sector .entry)) (at minute second frame) ⌝ }
 {
     let judged = sector::judge(sector, at(minute, second, frame));
-    packed(judged.number, tarsta(judged.judgement))
+    let judgement = judged.judgement;
+    packed(judged.number, judgement.tarsta())
 }
 
 // The error detection code of the bytes, whatever their number.
@@ -76,10 +74,8 @@ pub extern "C" fn cdrom_bench(
     text: &[u8],
     out: &mut [u8],
 ) -> usize
-    ensures size { λ r. ⌜ r ≡ length (bench-run (now (memory .entry)) (now (sector .entry)) (now (text .entry)) (now (out .entry)) .printed) ⌝ }
-    ensures memory { λ _. ⌜ now (memory .exit) ≡ bench-run (now (memory .entry)) (now (sector .entry)) (now (text .entry)) (now (out .entry)) .memory ⌝ }
-    ensures buffer { λ _. ⌜ now (sector .exit) ≡ bench-run (now (memory .entry)) (now (sector .entry)) (now (text .entry)) (now (out .entry)) .sector ⌝ }
-    ensures out { λ _. ⌜ now (out .exit) ≡ fed-out (bench-run (now (memory .entry)) (now (sector .entry)) (now (text .entry)) (now (out .entry))) (now (out .entry)) ⌝ }
+    ensures { λ r. ⌜ record { result = r; memory = now (memory .exit); sector = now (sector .exit); out = now (out .exit) }
+        ≡ bench-run (now (memory .entry)) (now (sector .entry)) (now (text .entry)) (now (out .entry)) ⌝ }
 {
     let fed = script::feed(Bench::start(), memory, sector, text, out);
     fed.size

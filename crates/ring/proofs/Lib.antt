@@ -1,4 +1,4 @@
 -- Laws of the ring's place and memory.
 pub mod Steps
 pub mod Blocks
-pub mod Rests
+pub mod Represents

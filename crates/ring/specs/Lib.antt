@@ -1,4 +1,4 @@
 -- The ring: its place, and its blocks in lent memory.
 pub mod Place
 pub mod Memory
-pub mod Rests
+pub mod Represents

@@ -2,20 +2,16 @@
 -- are never written (paper 01, "The part and its papers"). Assumes nothing.
 use Prim.Native.Nat.{ℕ, _+_, _*_}
 use mathlib.Core.List.{List, _++_}
-use lib.ListN.{take, drop, getD}
+use lib.ListN.{take, drop}
 
 -- the first byte of block b
-abbrev pub start : ℕ → ℕ
-start b = b * 2560
+abbrev pub base : ℕ → ℕ
+base b = b * 2560
 
 -- the sector that block b holds
 abbrev pub block : List ℕ → ℕ → List ℕ
-block ring b = take 2352 (drop (start b) ring)
+block ring b = take 2352 (drop (base b) ring)
 
 -- the ring with the sector s in block b
 abbrev pub stored : List ℕ → ℕ → List ℕ → List ℕ
-stored ring b s = take (start b) ring ++ (s ++ drop (start b + 2352) ring)
-
--- two bytes as a word, the first low
-abbrev pub word-at : List ℕ → ℕ → ℕ
-word-at xs p = getD xs p 0 + 256 * getD xs (p + 1) 0
+stored ring b s = take (base b) ring ++ (s ++ drop (base b + 2352) ring)

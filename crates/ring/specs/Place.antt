@@ -1,9 +1,10 @@
 -- The ring's place (paper 01, "The ring"; 001, TBL (24h), LDDBL (3Ah)): N blocks, T the transfer block, B the next block to fill, and the
 -- last decoded block. Assumes nothing.
 use Prim.Native.Nat.{ℕ, _+_, _%_, _<_, _≤_}
-use mathlib.Core.Bool.{Bool, _&&_}
-use lib.Dec.{ltb, leb, eqb}
+use mathlib.Core.Bool.{Bool}
+use lib.Dec.{eqb}
 use Rattle.controller.specs.declared.step.Event.{Event}
+use Rattle.controller.specs.declared.step.RingFacts.{RingFacts}
 use Rattle.controller.specs.declared.step.Event.the-variants.{Stay, Store, Advance, Rewind, Move, Clear}
 use Rattle.ring.specs.declared.Place.{Place}
 
@@ -13,11 +14,11 @@ at n t b last = record { n = n; t = t; b = b; last = last }
 abbrev pub opened : ℕ → Place
 opened n = at n 0 0 0
 
--- N is 3..255, and each block number below N
-abbrev pub place-sound : Place → Bool
-place-sound p = leb 3 (p .n) && leb (p .n) 255 && ltb (p .t) (p .n) && ltb (p .b) (p .n) && ltb (p .last) (p .n)
+-- what a call is told of the ring
+abbrev pub ring-facts : Place → RingFacts
+ring-facts p = record { n = p .n; t = p .t; last = p .last }
 
--- the same as facts
+-- N is 3..255, and each block number below N
 pub record PlaceSound (p : Place) : Type 0 where
   pub least : 3 ≤ p .n
   pub most : p .n ≤ 255

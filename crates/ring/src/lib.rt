@@ -3,12 +3,13 @@
 mod memory;
 
 use controller::Event;
+use controller::RingFacts;
 pub use memory::store;
 pub use memory::word_of;
 pub use memory::words_of;
 ghost use mathlib.Core.Path.{_≡_};
 ghost use Prim.Native.Nat.{_+_, _%_, _<_};
-ghost use Rattle.ring.specs.Place.{opened, place-sound, full, place-step, PlaceSound};
+ghost use Rattle.ring.specs.Place.{opened, ring-facts, full, place-step, PlaceSound};
 
 pub struct Place {
     pub n: u16,
@@ -37,14 +38,15 @@ impl Place {
         }
     }
 
-    pub fn sound(self) -> bool
-        ensures { λ r. ⌜ r ≡ place-sound self ⌝ }
+    // What a call is told of the ring.
+    pub fn facts(self) -> RingFacts
+        ensures { λ r. ⌜ r ≡ ring-facts self ⌝ }
     {
-        (3 <= self.n)
-            & (self.n <= 255)
-            & (self.t < self.n)
-            & (self.b < self.n)
-            & (self.last < self.n)
+        RingFacts {
+            n: self.n,
+            t: self.t,
+            last: self.last,
+        }
     }
 
     // The ring's own stop.

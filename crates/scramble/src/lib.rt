@@ -32,7 +32,7 @@ fn xor_into(dst: &mut [u8], src: &[u8], t: &[u8])
 }
 
 // A sector scrambled, or descrambled, where it lies.
-// Ruled out: one that scrambles the sync bytes, and one whose table has a wrong entry.
+// Ruled out: one that scrambles the sync bytes, and one that xors with a table of one wrong entry.
 pub fn scramble(sector: &mut [u8])
     requires { ⌜ length (now sector) ≡ 2352 ⌝ }
     ensures { λ _. ⌜ now (sector .exit) ≡ scrambled (now (sector .entry)) ⌝ }

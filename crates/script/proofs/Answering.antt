@@ -1,111 +1,68 @@
 -- What the bench answers, by cases of the word handed over, of a sector line and of the bench. Assumes nothing.
-use mathlib.Core.Path.{_≡_, sym, ap, _∙_}
-use mathlib.Core.Bool.{true, false}
+use mathlib.Core.Path.{_≡_, sym, ap, ap₂, _∙_}
+use mathlib.Core.Bool.{true}
 use mathlib.Core.List.{List, _++_, append-assoc}
-use mathlib.Core.Logic.{⊎-elim}
-use Prim.Native.Nat.{ℕ, _+_, _-_, _≤_, _<_, min}
+use Prim.Native.Nat.{ℕ, _+_, _-_, _≤_, _<_}
 use native.Mathlib.Omega.{arith}
-use lib.Dec.{eqb}
-use lib.ListN.{length, take, drop, replicate, length-replicate, length-append, length-take, length-drop, drop-of-length-le}
-use lib.Seq.{take-all, take-at, take-append-add, length-take-le}
+use lib.ListN.{length, take, drop, replicate, length-replicate, length-append, length-take, length-drop}
+use lib.Seq.{take-at, take-append-add, length-take-le}
 use borrow.Rule.Slice.PartMut.{putMid, midOf}
 use borrow.Author.Tests.{eq-eqb, ne-eqb, lt-ltb, le-ltb}
 use Rattle.laws.proofs.Parts.{put-rest, mid-rest, put-part}
-use Rattle.laws.proofs.Wrap.{lt-or-ge}
 use Rattle.laws.proofs.Choice.{if-true, if-false, not-of-true, not-of-false}
 use Rattle.sector.specs.Calls.{seal-reply, seal-sector}
 use Rattle.sector.specs.declared.Address.{Address}
-use Rattle.sector.specs.declared.Reply.{Reply}
+use Rattle.reply.specs.declared.Reply.{Reply}
 use Rattle.chip.specs.Calls as calls
-use Rattle.chip.specs.Host as host
 use Rattle.chip.specs.declared.Chip.{Chip}
 use Rattle.chip.specs.declared.WordTold.{WordTold}
 use Rattle.chip.specs.declared.Word.the-variants.{Handed, Refused}
-use Rattle.script.specs.Answers.{refused, of-told, word, word-refused, unsealed, disc-number, disc-buffer, disc, disc-ring}
+use Rattle.script.specs.Answers.{Answered, unchanged, refused, of-told, word, word-refused, unsealed, given, disc}
 use Rattle.script.specs.declared.call.Answer.{Answer}
 
 -- the host word, by whether one is handed over
-module _ (c : Chip) (ring : List ℕ) (t : WordTold) (e : t ≡ host.word-told c ring) where
+module _ (c : Chip) (ring : List ℕ) (t : WordTold) (e : t ≡ calls.word-told c ring) where
   of-word : WordTold → Answer
-  of-word u = record { opened = true; chip = u .chip; number = host.word-number (u .word); out = host.word-value (u .word) }
+  of-word u = record { opened = true; chip = u .chip; number = calls.word-number (u .word); out = calls.word-value (u .word) }
 
   pub word-not : (k : ℕ) → t .word ≡ Refused k → word-refused (t .chip) (t .word) ≡ word c ring
   unfolding word of-word
   word-not k q =
-      ap (λ (v : ℕ). record { opened = true; chip = t .chip; number = host.word-number (t .word); out = v }) (sym (ap (λ w. host.word-value w) q))
+      ap (λ (v : ℕ). record { opened = true; chip = t .chip; number = calls.word-number (t .word); out = v }) (sym (ap (λ w. calls.word-value w) q))
       ∙ ap of-word e
 
   pub word-given : (w : ℕ) → t .word ≡ Handed w → record { opened = true; chip = t .chip; number = 0; out = w } ≡ word c ring
   unfolding word of-word
   word-given w q =
-      ap (λ v. record { opened = true; chip = t .chip; number = host.word-number v; out = host.word-value v }) (sym q)
+      ap (λ v. record { opened = true; chip = t .chip; number = calls.word-number v; out = calls.word-value v }) (sym q)
       ∙ ap of-word e
 
--- a sector line, by its number before the chip is asked
+-- a sector line, by the tests in their order: the buffer's size, the fill, the address
 module _ (c : Chip) (ring s : List ℕ) (a : Address) (byte : ℕ) where
-  pub disc-not : (n : ℕ) → n ≡ disc-number s a byte → eqb n 0 ≡ false → refused true c n ≡ disc c ring s a byte
+  pub disc-size : (length s ≡ 2352 → ⊥) → unchanged ring s (refused true c 1) ≡ disc c ring s a byte
   unfolding disc
-  disc-not n e h = ap (refused true c) e ∙ sym (if-false _ _ _ (ap (λ (k : ℕ). eqb k 0) (sym e) ∙ h))
+  disc-size h = sym (if-true _ _ _ (not-of-false _ (ne-eqb _ _ h)))
 
-  pub disc-not-ring : (n : ℕ) → n ≡ disc-number s a byte → eqb n 0 ≡ false → ring ≡ disc-ring c ring s a byte
-  unfolding disc-ring
-  disc-not-ring n e h = sym (if-false _ _ _ (ap (λ (k : ℕ). eqb k 0) (sym e) ∙ h))
+  module _ (h : length s ≡ 2352) where
+    pub disc-fill : 255 < byte → unchanged ring s (refused true c 3) ≡ disc c ring s a byte
+    unfolding disc
+    disc-fill k = sym (if-false _ _ _ (not-of-true _ (eq-eqb _ _ h)) ∙ if-true _ _ _ (lt-ltb _ _ k))
 
-  pub disc-done : (n : ℕ) → n ≡ disc-number s a byte → eqb n 0 ≡ true
-      → of-told (calls.sector-told c ring (disc-buffer s a byte)) ≡ disc c ring s a byte
-  unfolding disc
-  disc-done n e h = sym (if-true _ _ _ (ap (λ (k : ℕ). eqb k 0) (sym e) ∙ h))
+    module _ (k : byte ≤ 255) (l s′ : List ℕ) (r : Reply) (e : l ≡ unsealed byte) (q : r ≡ seal-reply l a) (p : s′ ≡ seal-sector l a) where
+      given-is : given c ring r s′ ≡ disc c ring s a byte
+      unfolding disc
+      given-is =
+          ap₂ (given c ring) (q ∙ ap (λ (x : List ℕ). seal-reply x a) e) (p ∙ ap (λ (x : List ℕ). seal-sector x a) e)
+          ∙ sym (if-false _ _ _ (not-of-true _ (eq-eqb _ _ h)) ∙ if-false _ _ _ (le-ltb _ _ k))
 
-  pub disc-done-ring : (n : ℕ) → n ≡ disc-number s a byte → eqb n 0 ≡ true
-      → calls.sector-ring c ring (disc-buffer s a byte) ≡ disc-ring c ring s a byte
-  unfolding disc-ring
-  disc-done-ring n e h = sym (if-true _ _ _ (ap (λ (k : ℕ). eqb k 0) (sym e) ∙ h))
+      pub disc-not : (r .number ≡ 0 → ⊥) → unchanged ring s′ (refused true c (r .number)) ≡ disc c ring s a byte
+      unfolding given
+      disc-not z = sym (if-false _ _ _ (ne-eqb _ _ z)) ∙ given-is
 
--- its number and its buffer, by the tests in their order: the buffer's size, the fill, the address
-module _ (s : List ℕ) (a : Address) (byte : ℕ) where
-  pub number-size : (length s ≡ 2352 → ⊥) → 1 ≡ disc-number s a byte
-  unfolding disc-number
-  number-size h = sym (if-true _ _ _ (not-of-false _ (ne-eqb _ _ h)))
-
-  pub buffer-size : (length s ≡ 2352 → ⊥) → s ≡ disc-buffer s a byte
-  unfolding disc-buffer
-  buffer-size h = sym (if-true _ _ _ (not-of-false _ (ne-eqb _ _ h)))
-
-  pub number-fill : length s ≡ 2352 → 255 < byte → 3 ≡ disc-number s a byte
-  unfolding disc-number
-  number-fill h k = sym (if-false _ _ _ (not-of-true _ (eq-eqb _ _ h)) ∙ if-true _ _ _ (lt-ltb _ _ k))
-
-  pub buffer-fill : length s ≡ 2352 → 255 < byte → s ≡ disc-buffer s a byte
-  unfolding disc-buffer
-  buffer-fill h k = sym (if-false _ _ _ (not-of-true _ (eq-eqb _ _ h)) ∙ if-true _ _ _ (lt-ltb _ _ k))
-
-  pub seal-number : (l : List ℕ) (r : Reply) → length s ≡ 2352 → byte ≤ 255 → l ≡ unsealed byte → r ≡ seal-reply l a
-      → r .number ≡ disc-number s a byte
-  unfolding disc-number
-  seal-number l r h k e q =
-      ap (λ (x : Reply). x .number) q ∙ ap (λ (x : List ℕ). seal-reply x a .number) e
-      ∙ sym (if-false _ _ _ (not-of-true _ (eq-eqb _ _ h)) ∙ if-false _ _ _ (le-ltb _ _ k))
-
-  pub seal-buffer : (l r : List ℕ) → length s ≡ 2352 → byte ≤ 255 → l ≡ unsealed byte → r ≡ seal-sector l a → r ≡ disc-buffer s a byte
-  unfolding disc-buffer
-  seal-buffer l r h k e q =
-      q ∙ ap (λ (x : List ℕ). seal-sector x a) e ∙ sym (if-false _ _ _ (not-of-true _ (eq-eqb _ _ h)) ∙ if-false _ _ _ (le-ltb _ _ k))
-
--- the start of the memory, cut at the ring's size or at the memory's own length
-module _ (k r : ℕ) (m : List ℕ) (e : r ≡ min k (length m)) where
-  pub least-take : take r m ≡ take k m
-  least-take =
-      ⊎-elim
-      (λ (h : k < length m). let q : r ≡ k = omega (arith, e) in ap (λ (n : ℕ). take n m) q)
-      (λ (h : length m ≤ k). let q : length m ≤ r = omega (arith, e) in take-all r m q ∙ sym (take-all k m h))
-      (lt-or-ge k (length m))
-
-  pub least-drop : drop r m ≡ drop k m
-  least-drop =
-      ⊎-elim
-      (λ (h : k < length m). let q : r ≡ k = omega (arith, e) in ap (λ (n : ℕ). drop n m) q)
-      (λ (h : length m ≤ k). let q : length m ≤ r = omega (arith, e) in drop-of-length-le m q ∙ sym (drop-of-length-le m h))
-      (lt-or-ge k (length m))
+      pub disc-done : r .number ≡ 0
+          → record { answer = of-told (calls.sector-told c ring s′); memory = calls.sector-ring c ring s′; sector = s′ } ≡ disc c ring s a byte
+      unfolding given
+      disc-done z = sym (if-true _ _ _ (eq-eqb _ _ z)) ∙ given-is
 
 -- the three parts of a bench sector, put one behind the other
 pub laid : (s a b z : List ℕ) (byte : ℕ) → a ≡ replicate 16 0 → b ≡ replicate 2048 byte → z ≡ replicate 288 0 →

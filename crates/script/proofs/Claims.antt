@@ -1,19 +1,28 @@
--- Before an accepted opening a line leaves the bench closed and shows zeros. Assumes nothing.
+-- Before an accepted opening a line leaves the bench closed and shows zeros; after one it runs the machine of demand 3. Assumes nothing.
 use Prim.Native.Nat.{ℕ}
 use mathlib.Core.Path.{_≡_, refl, sym, ap, _∙_}
 use mathlib.Core.Bool.{Bool, true, false, not, true≢false}
 use mathlib.Core.List.{List, []}
 use lib.Dec.{ltb, eqb}
+use lib.ListN.{length}
+use borrow.Author.Tests.{eq-eqb}
 use Rattle.laws.specs.Choice.{if_then_else_}
-use Rattle.laws.proofs.Choice.{if-true}
+use Rattle.laws.proofs.Choice.{if-true, if-false}
+use Rattle.sector.specs.Calls.{seal-reply, seal-sector}
+use Rattle.sector.specs.declared.Address.{Address}
+use Rattle.outcomes.specs.Machine.{sector, number}
+use Rattle.chip.specs.Calls as calls
 use Rattle.chip.specs.Chip.{opened}
+use Rattle.chip.specs.Machine.{over, of-word, chip-answer, chip-step}
 use Rattle.chip.specs.declared.Chip.{Chip}
+use Rattle.chip.specs.declared.Word.{Word}
+use Rattle.chip.specs.declared.Word.the-variants.{Handed, Refused}
 use Rattle.syntax.specs.Grammar.{form, onward, bare, several, named, parse}
 use Rattle.syntax.specs.declared.line.Line.{Line}
 use Rattle.syntax.specs.declared.line.Line.the-variants.{Malformed, Open, Plain, Look, Take, Disc}
-use Rattle.script.specs.Answers.{answered, refused, of-told, opening, closed, shown}
+use Rattle.script.specs.Answers.{Answered, unchanged, answered, refused, of-told, opening, unsealed, given, disc, word, called, closed, shown}
 use Rattle.script.specs.Bench.{started, reply, count}
-use Rattle.script.specs.Claims.{Closed, ClosedClaim}
+use Rattle.script.specs.Claims.{Closed, ClosedClaim, out-of, Runs, MachineClaim}
 use Rattle.script.specs.declared.Bench.{Bench}
 use Rattle.script.specs.declared.call.Answer.{Answer}
 
@@ -36,23 +45,62 @@ closed-refuses c Look e = refl
 closed-refuses c Take e = refl
 closed-refuses c (Disc a byte) e = refl
 
-reply-closed : (b : Bench) (m s line : List ℕ) → b .opened ≡ false → reply b m s line ≡ closed (b .chip) (parse line)
+reply-closed : (b : Bench) (m s line : List ℕ) → b .opened ≡ false → reply b m s line .answer ≡ closed (b .chip) (parse line)
 unfolding answered
-reply-closed b m s line e = if-true (not (b .opened)) _ _ (ap not e)
+reply-closed b m s line e = ap (λ (a : Answered). a .answer) (if-true (not (b .opened)) _ _ (ap not e))
 
 pub closed-claim : ClosedClaim
 unfolding Refusal opened
 closed-claim b m s line k e =
     let q = reply-closed b m s line (k .0) in
-    let r : reply b m s line ≡ refused false (b .chip) (reply b m s line .number)
-    = q ∙ closed-refuses (b .chip) (parse line) (sym (ap (λ (a : Answer). a .opened) q) ∙ e) ∙ ap (λ (a : Answer). refused false (b .chip) (a .number)) (sym q) in
-    let h : reply b m s line .chip ≡ started .chip = ap (λ (a : Answer). a .chip) r ∙ k .1 in
-    ((e, h), ap (λ (a : Answer). shown a (count b)) r ∙ ap (λ (c : Chip). shown (refused false c (reply b m s line .number)) (count b)) (k .1))
+    let a = reply b m s line .answer in
+    let r : a ≡ refused false (b .chip) (a .number)
+    = q ∙ closed-refuses (b .chip) (parse line) (sym (ap (λ (x : Answer). x .opened) q) ∙ e) ∙ ap (λ (x : Answer). refused false (b .chip) (x .number)) (sym q) in
+    let h : a .chip ≡ started .chip = ap (λ (x : Answer). x .chip) r ∙ k .1 in
+    ((e, h), ap (λ (x : Answer). shown x (count b)) r ∙ ap (λ (c : Chip). shown (refused false c (a .number)) (count b)) (k .1))
 
 -- the claim's premises are met: a bench that was started is closed, and an empty line does not open it
 pub closed-started : Closed started
 closed-started = (refl, refl)
 
-pub closed-empty : (m s : List ℕ) → reply started m s [] .opened ≡ false
+pub closed-empty : (m s : List ℕ) → reply started m s [] .answer .opened ≡ false
 unfolding answered closed parse named several bare form onward
 closed-empty m s = refl
+
+-- the number and the value of a word are those of its answer
+word-number : (w : Word) → calls.word-number w ≡ number (of-word w)
+word-number (Handed v) = refl
+word-number (Refused k) = refl
+
+word-out : (w : Word) → calls.word-value w ≡ out-of (of-word w)
+word-out (Handed v) = refl
+word-out (Refused k) = refl
+
+sector-line :
+    (c : Chip) (ring s : List ℕ) (a : Address) (byte : ℕ) → length s ≡ 2352 → ltb 255 byte ≡ false → seal-reply (unsealed byte) a .number ≡ 0
+    → called c ring s (Disc a byte)
+    ≡ record {
+      answer = of-told (calls.sector-told c ring (seal-sector (unsealed byte) a));
+      memory = calls.sector-ring c ring (seal-sector (unsealed byte) a);
+      sector = seal-sector (unsealed byte) a;
+    }
+unfolding called disc given
+sector-line c ring s a byte size low sealed =
+    if-false (not (eqb (length s) 2352)) _ _ (ap not (eq-eqb _ _ size)) ∙ if-false (ltb 255 byte) _ _ low ∙ if-true (eqb (seal-reply (unsealed byte) a .number) 0) _ _ (eq-eqb _ _ sealed)
+
+pub machine-claim : MachineClaim
+unfolding called word chip-answer chip-step
+machine-claim = record {
+  plain-runs = λ c ring s call. record { number-is = refl; out-is = refl; chip-is = refl; ring-is = refl };
+  look-runs = λ c ring s. record { number-is = refl; out-is = refl; chip-is = refl; ring-is = refl };
+  word-runs = λ c ring s.
+      record { number-is = word-number (calls.word-told c ring .word); out-is = word-out (calls.word-told c ring .word); chip-is = refl; ring-is = refl };
+  sector-runs = λ c ring s a byte size low sealed.
+      let e = sector-line c ring s a byte size low sealed in
+      record {
+        number-is = ap (λ (x : Answered). x .answer .number) e;
+        out-is = ap (λ (x : Answered). x .answer .out) e;
+        chip-is = ap (λ (x : Answered). x .answer .chip) e;
+        ring-is = ap (λ (x : Answered). x .memory) e;
+      };
+}

@@ -7,16 +7,14 @@ use lib.ListN.{length, take, drop, replicate}
 use Rattle.laws.specs.Choice.{if_then_else_}
 use Rattle.sector.specs.Calls.{seal-reply, seal-sector}
 use Rattle.sector.specs.declared.Address.{Address}
+use Rattle.reply.specs.declared.Reply.{Reply}
 use Rattle.chip.specs.Chip.{opened}
 use Rattle.chip.specs.Calls as calls
-use Rattle.chip.specs.Host as host
 use Rattle.chip.specs.declared.Chip.{Chip}
 use Rattle.chip.specs.declared.Told.{Told}
 use Rattle.chip.specs.declared.Word.{Word}
 use Rattle.syntax.specs.declared.line.Line.{Line}
 use Rattle.syntax.specs.declared.line.Line.the-variants.{Malformed, Open, Plain, Look, Take, Disc}
-use Rattle.syntax.specs.declared.line.Call.{Call}
-use Rattle.syntax.specs.declared.line.Call.the-variants.{Read, Write, Block, Window, Expect, Packet, Reset, Command, Send, Status, Srst}
 use Rattle.script.specs.declared.call.Answer.{Answer}
 use Rattle.syntax.specs.declared.print.Shown.{Shown}
 
@@ -35,32 +33,18 @@ opening o c n =
     else if eqb (opened n .reply .number) 0 then of-told (opened n)
     else refused o c 1
 
--- the calls that are lent no memory
-unfoldable pub plain : Chip → Call → Told
-plain c (Read reg) = calls.read c reg
-plain c (Write reg value) = calls.written c reg value
-plain c (Block number) = calls.block-set c number
-plain c (Window offset words) = calls.window-set c offset words
-plain c (Expect a) = calls.expected-set c a
-plain c (Packet index) = calls.packet-read c index
-plain c Reset = calls.chip-reset c
-plain c (Command code) = host.commanded c code
-plain c (Send w) = host.packet-sent c w
-plain c Status = host.status-read c
-plain c Srst = host.soft-reset c
-
 -- for a private contract: a refusal of the host word, passed on
 abbrev pub word-refused : Chip → Word → Answer
-word-refused c w = refused true c (host.word-number w)
+word-refused c w = refused true c (calls.word-number w)
 
 -- the host word: the chip after it, its number and its value
 unfoldable pub word : Chip → List ℕ → Answer
 word c ring =
     record {
       opened = true;
-      chip = host.word-told c ring .chip;
-      number = host.word-number (host.word-told c ring .word);
-      out = host.word-value (host.word-told c ring .word);
+      chip = calls.word-told c ring .chip;
+      number = calls.word-number (calls.word-told c ring .word);
+      out = calls.word-value (calls.word-told c ring .word);
     }
 
 -- the length in bytes of what a look shows
@@ -71,58 +55,37 @@ look c ring = record { opened = true; chip = c; number = 0; out = length (calls.
 unfoldable pub unsealed : ℕ → List ℕ
 unsealed byte = replicate 16 0 ++ (replicate 2048 byte ++ replicate 288 0)
 
--- the number of a sector line before the chip is asked: 1 for a buffer of another size, 3 for a fill above 255 or a bad address
-unfoldable pub disc-number : List ℕ → Address → ℕ → ℕ
-disc-number s a byte =
-    if not (eqb (length s) 2352) then 1
-    else if ltb 255 byte then 3
-    else seal-reply (unsealed byte) a .number
+-- what a call leaves: its answer, the memory that it was lent, and the sector buffer
+pub record Answered : Type 0 where
+  pub answer : Answer
+  pub memory : List ℕ
+  pub sector : List ℕ
 
--- the buffer that it leaves: a fill above 255 changes no byte, a bad address leaves the unsealed bytes
-unfoldable pub disc-buffer : List ℕ → Address → ℕ → List ℕ
-disc-buffer s a byte =
-    if not (eqb (length s) 2352) then s
-    else if ltb 255 byte then s
-    else seal-sector (unsealed byte) a
+-- an answer that changes no byte
+abbrev pub unchanged : List ℕ → List ℕ → Answer → Answered
+unchanged m s a = record { answer = a; memory = m; sector = s }
 
--- a sector line's answer: that number, or where it is 0 the chip's
-unfoldable pub disc : Chip → List ℕ → List ℕ → Address → ℕ → Answer
+-- the bytes that sealing left, and its reply: a refusal of the address is the answer, and a sealed sector is given to the chip
+unfoldable pub given : Chip → List ℕ → Reply → List ℕ → Answered
+given c ring r s =
+    if eqb (r .number) 0 then record { answer = of-told (calls.sector-told c ring s); memory = calls.sector-ring c ring s; sector = s }
+    else unchanged ring s (refused true c (r .number))
+
+-- a sector line: a buffer of another size is 1, a fill above 255 is 3
+unfoldable pub disc : Chip → List ℕ → List ℕ → Address → ℕ → Answered
 disc c ring s a byte =
-    if eqb (disc-number s a byte) 0 then of-told (calls.sector-told c ring (disc-buffer s a byte))
-    else refused true c (disc-number s a byte)
+    if not (eqb (length s) 2352) then unchanged ring s (refused true c 1)
+    else if ltb 255 byte then unchanged ring s (refused true c 3)
+    else given c ring (seal-reply (unsealed byte) a) (seal-sector (unsealed byte) a)
 
--- and the ring that it leaves
-unfoldable pub disc-ring : Chip → List ℕ → List ℕ → Address → ℕ → List ℕ
-disc-ring c ring s a byte =
-    if eqb (disc-number s a byte) 0 then calls.sector-ring c ring (disc-buffer s a byte)
-    else ring
-
--- the calls of an open chip
-unfoldable pub called : Chip → List ℕ → List ℕ → Line → Answer
-called c ring s Malformed = refused true c 2
-called c ring s (Open n) = opening true c n
-called c ring s (Plain call) = of-told (plain c call)
-called c ring s Look = look c ring
-called c ring s Take = word c ring
+-- the calls of an open chip: only a sector changes the ring and the buffer
+unfoldable pub called : Chip → List ℕ → List ℕ → Line → Answered
+called c ring s Malformed = unchanged ring s (refused true c 2)
+called c ring s (Open n) = unchanged ring s (opening true c n)
+called c ring s (Plain call) = unchanged ring s (of-told (calls.called c call))
+called c ring s Look = unchanged ring s (look c ring)
+called c ring s Take = unchanged ring s (word c ring)
 called c ring s (Disc a byte) = disc c ring s a byte
-
--- only a sector changes the ring
-unfoldable pub called-ring : Chip → List ℕ → List ℕ → Line → List ℕ
-called-ring c ring s Malformed = ring
-called-ring c ring s (Open n) = ring
-called-ring c ring s (Plain call) = ring
-called-ring c ring s Look = ring
-called-ring c ring s Take = ring
-called-ring c ring s (Disc a byte) = disc-ring c ring s a byte
-
--- and only a sector changes the buffer
-unfoldable pub called-buffer : List ℕ → Line → List ℕ
-called-buffer s Malformed = s
-called-buffer s (Open n) = s
-called-buffer s (Plain call) = s
-called-buffer s Look = s
-called-buffer s Take = s
-called-buffer s (Disc a byte) = disc-buffer s a byte
 
 -- before an accepted opening every other call is 5
 unfoldable pub closed : Chip → Line → Answer
@@ -137,23 +100,15 @@ closed c (Disc a byte) = refused false c 5
 abbrev pub size : Chip → ℕ
 size c = c .place .n * 2560
 
--- the answer, with a chip open and with none
-unfoldable pub answered : Bool → Chip → List ℕ → List ℕ → Line → Answer
+-- and no byte behind it is changed
+abbrev pub with-rest : Answered → List ℕ → Answered
+with-rest a rest = record { answer = a .answer; memory = a .memory ++ rest; sector = a .sector }
+
+-- with no chip open, and with one
+unfoldable pub answered : Bool → Chip → List ℕ → List ℕ → Line → Answered
 answered o c m s line =
-    if not o then closed c line
-    else called c (take (size c) m) s line
-
--- the memory that it leaves: no byte behind the ring is changed
-unfoldable pub answered-memory : Bool → Chip → List ℕ → List ℕ → Line → List ℕ
-answered-memory o c m s line =
-    if not o then m
-    else called-ring c (take (size c) m) s line ++ drop (size c) m
-
--- and the buffer
-unfoldable pub answered-buffer : Bool → List ℕ → Line → List ℕ
-answered-buffer o s line =
-    if not o then s
-    else called-buffer s line
+    if not o then unchanged m s (closed c line)
+    else with-rest (called c (take (size c) m) s line) (drop (size c) m)
 
 -- what the printed line shows: the answer, and the counters and the interrupt after the call
 abbrev pub shown : Answer → ℕ → Shown

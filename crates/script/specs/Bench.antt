@@ -1,14 +1,14 @@
 -- The bench: what a line does and prints (paper 01, "Bench cases"; docs/DECISIONS.md, "Bench"). Assumes nothing.
 use Prim.Native.Nat.{ℕ, _+_, _%_, _^_}
 use mathlib.Core.Bool.{false}
-use mathlib.Core.List.{List, _++_}
+use mathlib.Core.List.{List}
 use lib.Dec.{ltb}
-use lib.ListN.{length, drop}
+use lib.ListN.{length}
 use Rattle.laws.specs.Choice.{if_then_else_}
 use Rattle.chip.specs.Chip.{opened}
 use Rattle.syntax.specs.Grammar.{parse}
-use Rattle.script.specs.Answers.{answered, answered-memory, answered-buffer, shown}
-use Rattle.syntax.specs.Print.{printed}
+use Rattle.script.specs.Answers.{Answered, answered, shown}
+use Rattle.syntax.specs.Print.{printed, room, over}
 use Rattle.script.specs.declared.call.Answer.{Answer}
 use Rattle.script.specs.declared.Bench.{Bench}
 use Rattle.script.specs.declared.Ran.{Ran}
@@ -17,42 +17,41 @@ use Rattle.script.specs.declared.Ran.{Ran}
 abbrev pub started : Bench
 started = record { opened = false; chip = opened 0 .chip; lines = 0 }
 
+-- what a call of the bench leaves: its result, the memory, the sector buffer, and the buffer that is printed into
+pub record Left (A : Type 0) : Type 0 where
+  pub result : A
+  pub memory : List ℕ
+  pub sector : List ℕ
+  pub out : List ℕ
+
 -- the answer to a line
-abbrev pub reply : Bench → List ℕ → List ℕ → List ℕ → Answer
+abbrev pub reply : Bench → List ℕ → List ℕ → List ℕ → Answered
 reply b m s line = answered (b .opened) (b .chip) m s (parse line)
 
 -- lines are counted from 1; the count is a number of 64 bits
 abbrev pub count : Bench → ℕ
 count b = (b .lines + 1) % 2 ^ 64
 
--- the line printed: the answer, and the counters and the interrupt after the call
-abbrev pub text : Bench → List ℕ → List ℕ → List ℕ → List ℕ
-text b m s line = printed (shown (reply b m s line) (count b))
-
--- the bench after the answer
+-- the bench after an answer
 abbrev pub after : Answer → ℕ → Bench
 after a n = record { opened = a .opened; chip = a .chip; lines = n }
 
--- a line given with room for less than 160 bytes to print is not run
-unfoldable pub ran : Bench → List ℕ → List ℕ → List ℕ → List ℕ → Ran
+-- the line printed: the answer, and the counters and the interrupt after the call
+abbrev pub text : Answer → ℕ → List ℕ
+text a n = printed (shown a n)
+
+-- a line that is run: its answer is printed at the front of the buffer
+abbrev pub told : Answered → ℕ → List ℕ → Left Ran
+told a n out =
+    record {
+      result = record { bench = after (a .answer) n; size = length (text (a .answer) n) };
+      memory = a .memory;
+      sector = a .sector;
+      out = over (text (a .answer) n) out;
+    }
+
+-- a line given with less room to print than `room` is not run
+unfoldable pub ran : Bench → List ℕ → List ℕ → List ℕ → List ℕ → Left Ran
 ran b m s line out =
-    if ltb (length out) 160 then record { bench = b; size = 0 }
-    else record { bench = after (reply b m s line) (count b); size = length (text b m s line) }
-
--- the memory that it leaves
-unfoldable pub ran-memory : Bench → List ℕ → List ℕ → List ℕ → List ℕ → List ℕ
-ran-memory b m s line out =
-    if ltb (length out) 160 then m
-    else answered-memory (b .opened) (b .chip) m s (parse line)
-
--- and the sector buffer
-unfoldable pub ran-buffer : Bench → List ℕ → List ℕ → List ℕ → List ℕ
-ran-buffer b s line out =
-    if ltb (length out) 160 then s
-    else answered-buffer (b .opened) s (parse line)
-
--- the room after it: the printed line, then the bytes that stood there
-unfoldable pub ran-out : Bench → List ℕ → List ℕ → List ℕ → List ℕ → List ℕ
-ran-out b m s line out =
-    if ltb (length out) 160 then out
-    else text b m s line ++ drop (length (text b m s line)) out
+    if ltb (length out) room then record { result = record { bench = b; size = 0 }; memory = m; sector = s; out = out }
+    else told (reply b m s line) (count b) out

@@ -1,10 +1,21 @@
--- What holds before an accepted opening (paper 01, "Bench cases": 5 and nothing else). Assumes nothing.
+-- What holds before an accepted opening (paper 01, "Bench cases": 5 and nothing else); and that after one the bench runs the machine of demand 3.
+-- Assumes nothing.
 use Prim.Native.Nat.{ℕ}
 use mathlib.Core.Path.{_≡_}
 use mathlib.Core.Bool.{false}
 use mathlib.Core.List.{List}
+use lib.Dec.{ltb}
+use lib.ListN.{length}
+use Rattle.calls.specs.declared.Call.{Call as Lent-nothing}
+use Rattle.sector.specs.Calls.{seal-reply, seal-sector}
+use Rattle.sector.specs.declared.Address.{Address}
+use Rattle.outcomes.specs.Machine.{Call, plain, sector, look, word, Answer, replied, handed, refused, seen, number}
+use Rattle.chip.specs.Machine.{over, chip-answer, chip-step}
+use Rattle.chip.specs.declared.Chip.{Chip}
+use Rattle.syntax.specs.declared.line.Line.{Line}
+use Rattle.syntax.specs.declared.line.Line.the-variants.{Plain, Look, Take, Disc}
 use Rattle.syntax.specs.declared.print.Shown.{Shown}
-use Rattle.script.specs.Answers.{shown}
+use Rattle.script.specs.Answers.{unsealed, called, shown}
 use Rattle.script.specs.Bench.{started, reply, count, after}
 use Rattle.script.specs.declared.Bench.{Bench}
 
@@ -19,5 +30,29 @@ zeros n number = record { lines = n; number = number; out = 0; tcc = 0; bufc = 0
 -- a line that does not open a chip leaves the bench closed, and shows zeros behind its number
 abbrev pub ClosedClaim : Type 0
 ClosedClaim =
-    (b : Bench) (m s line : List ℕ) → Closed b → reply b m s line .opened ≡ false
-    → Closed (after (reply b m s line) (count b)) × (shown (reply b m s line) (count b) ≡ zeros (count b) (reply b m s line .number))
+    (b : Bench) (m s line : List ℕ) → Closed b → reply b m s line .answer .opened ≡ false
+    → Closed (after (reply b m s line .answer) (count b))
+    × (shown (reply b m s line .answer) (count b) ≡ zeros (count b) (reply b m s line .answer .number))
+
+-- what is printed of an answer as `out`
+abbrev pub out-of : Answer → ℕ
+out-of (replied n v) = v
+out-of (handed w) = w
+out-of (refused n) = 0
+out-of (seen bytes) = length bytes
+
+-- a line of the bench answers as the machine does to a call, and leaves the chip and the ring that the machine leaves
+pub record Runs (c : Chip) (ring s : List ℕ) (line : Line) (call : Call) : Type 0 where
+  pub number-is : called c ring s line .answer .number ≡ number (chip-answer call (over c ring))
+  pub out-is : called c ring s line .answer .out ≡ out-of (chip-answer call (over c ring))
+  pub chip-is : called c ring s line .answer .chip ≡ chip-step call (over c ring) .chip
+  pub ring-is : called c ring s line .memory ≡ chip-step call (over c ring) .ring
+
+pub record MachineClaim : Type 0 where
+  pub plain-runs : (c : Chip) (ring s : List ℕ) (call : Lent-nothing) → Runs c ring s (Plain call) (plain call)
+  pub look-runs : (c : Chip) (ring s : List ℕ) → Runs c ring s Look look
+  pub word-runs : (c : Chip) (ring s : List ℕ) → Runs c ring s Take word
+  -- a sector line that the chip is asked
+  pub sector-runs : (c : Chip) (ring s : List ℕ) (a : Address) (byte : ℕ)
+      → length s ≡ 2352 → ltb 255 byte ≡ false → seal-reply (unsealed byte) a .number ≡ 0
+      → Runs c ring s (Disc a byte) (sector (seal-sector (unsealed byte) a))

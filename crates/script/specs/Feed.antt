@@ -3,11 +3,11 @@ use Prim.Native.Nat.{ℕ, _+_}
 use mathlib.Core.Bool.{not}
 use mathlib.Core.List.{List, [], _∷_, _++_}
 use lib.Dec.{ltb, eqb}
-use lib.ListN.{length, drop}
+use lib.ListN.{length}
 use Rattle.laws.specs.Choice.{if_then_else_}
-use Rattle.syntax.specs.Grammar.{parse}
-use Rattle.script.specs.Answers.{answered-memory, answered-buffer}
-use Rattle.script.specs.Bench.{reply, count, text, after}
+use Rattle.syntax.specs.Print.{room, over}
+use Rattle.script.specs.Answers.{Answered}
+use Rattle.script.specs.Bench.{Left, reply, count, text, after}
 use Rattle.script.specs.declared.Bench.{Bench}
 use Rattle.script.specs.declared.lines.Fed.{Fed}
 
@@ -23,32 +23,38 @@ pub record Progress : Type 0 where
 abbrev pub begun : Bench → List ℕ → List ℕ → Progress
 begun b m s = record { bench = b; memory = m; sector = s; printed = []; taken = 0 }
 
--- one line more, with its end
-abbrev pub with-line : Progress → List ℕ → Progress
-with-line d line =
+-- one line more: its answer, and the bytes that it took with its end
+abbrev pub with-answer : Progress → Answered → ℕ → Progress
+with-answer d a size =
     record {
-      bench = after (reply (d .bench) (d .memory) (d .sector) line) (count (d .bench));
-      memory = answered-memory (d .bench .opened) (d .bench .chip) (d .memory) (d .sector) (parse line);
-      sector = answered-buffer (d .bench .opened) (d .sector) (parse line);
-      printed = d .printed ++ text (d .bench) (d .memory) (d .sector) line;
-      taken = d .taken + (length line + 1);
+      bench = after (a .answer) (count (d .bench));
+      memory = a .memory;
+      sector = a .sector;
+      printed = d .printed ++ text (a .answer) (count (d .bench));
+      taken = d .taken + size;
     }
 
--- every line that has an end, in order, while there is room for its answer; `line` is what has come of the present one
+abbrev pub with-line : Progress → List ℕ → Progress
+with-line d line = with-answer d (reply (d .bench) (d .memory) (d .sector) line) (length line + 1)
+
+-- every line that has an end, in order, while there is room for its answer in so many bytes; `line` is what has come of the present one
 unfoldable pub fed : ℕ → Progress → List ℕ → List ℕ → Progress
-fed room d line [] = d
-fed room d line (b ∷ bs) =
-    if not (eqb b 10) then fed room d (line ++ (b ∷ [])) bs
-    else if ltb room (length (d .printed) + 160) then d
-    else fed room (with-line d line) [] bs
+fed bytes d line [] = d
+fed bytes d line (b ∷ bs) =
+    if not (eqb b 10) then fed bytes d (line ++ (b ∷ [])) bs
+    else if ltb bytes (length (d .printed) + room) then d
+    else fed bytes (with-line d line) [] bs
 
--- a whole text, given with so many bytes to print into
-abbrev pub fed-text : Bench → List ℕ → List ℕ → List ℕ → List ℕ → Progress
-fed-text b m s text out = fed (length out) (begun b m s) [] text
+-- what a call leaves that made such progress: the answers at the front of the buffer, and their length
+abbrev pub fed-left : Progress → List ℕ → Left Fed
+fed-left d out =
+    record {
+      result = record { bench = d .bench; taken = d .taken; size = length (d .printed) };
+      memory = d .memory;
+      sector = d .sector;
+      out = over (d .printed) out;
+    }
 
--- what such a call answers, and what it leaves to be printed: the answers, then what stood there
-abbrev pub fed-told : Progress → Fed
-fed-told d = record { bench = d .bench; taken = d .taken; size = length (d .printed) }
-
-abbrev pub fed-out : Progress → List ℕ → List ℕ
-fed-out d out = d .printed ++ drop (length (d .printed)) out
+-- a whole text
+abbrev pub fed-text : Bench → List ℕ → List ℕ → List ℕ → List ℕ → Left Fed
+fed-text b m s text out = fed-left (fed (length out) (begun b m s) [] text) out

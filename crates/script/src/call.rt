@@ -3,13 +3,12 @@ use crate::fill::unsealed;
 use chip::Chip;
 use chip::Told;
 use chip::Word;
+use numbers::least_length;
 use sector::Address;
-use slices::least;
-use syntax::line::Call;
 use syntax::line::Line;
 use syntax::print::Shown;
 ghost use mathlib.Core.Path.{_≡_};
-ghost use Rattle.script.specs.Answers.{refused, of-told, opening, plain, word, word-refused, look, disc, disc-ring, disc-buffer, called, called-ring, called-buffer, closed, answered, answered-memory, answered-buffer, shown};
+ghost use Rattle.script.specs.Answers.{refused, of-told, opening, word, word-refused, look, disc, called, closed, answered, shown};
 
 // Whether a chip is open, the chip, the reply number and the result that is printed.
 pub struct Answer {
@@ -77,25 +76,6 @@ fn open(opened: bool, chip: Chip, n: u16) -> Answer
     told(t)
 }
 
-// The calls that are lent no memory.
-fn plain(chip: Chip, call: Call) -> Told
-    ensures { λ r. ⌜ r ≡ plain chip call ⌝ }
-{
-    match call {
-        Call::Read(reg) => chip.read(reg),
-        Call::Write(reg, value) => chip.write(reg, value),
-        Call::Block(number) => chip.set_block(number),
-        Call::Window(offset, words) => chip.set_window(offset, words),
-        Call::Expect(address) => chip.set_expected(address),
-        Call::Packet(index) => chip.packet_byte(index),
-        Call::Reset => chip.reset(),
-        Call::Command(code) => chip.command(code),
-        Call::Send(word) => chip.packet_word(word),
-        Call::Status => chip.status(),
-        Call::Srst => chip.srst(),
-    }
-}
-
 // A refusal of the host word, passed on. `host_word` takes a word that is handed over before this.
 fn word_refused(chip: Chip, word: Word) -> Answer
     ensures { λ r. ⌜ r ≡ word-refused chip word ⌝ }
@@ -139,9 +119,8 @@ fn look(chip: Chip, ring: &[u8]) -> Answer
 
 // A sector sealed at the address, every user byte equal to the fill and every parity byte 0.
 fn disc(chip: Chip, ring: &mut [u8], sector: &mut [u8], address: Address, byte: u16) -> Answer
-    ensures told { λ r. ⌜ r ≡ disc chip (now (ring .entry)) (now (sector .entry)) address byte ⌝ }
-    ensures ring { λ _. ⌜ now (ring .exit) ≡ disc-ring chip (now (ring .entry)) (now (sector .entry)) address byte ⌝ }
-    ensures buffer { λ _. ⌜ now (sector .exit) ≡ disc-buffer (now (sector .entry)) address byte ⌝ }
+    ensures { λ r. ⌜ record { answer = r; memory = now (ring .exit); sector = now (sector .exit) }
+        ≡ disc chip (now (ring .entry)) (now (sector .entry)) address byte ⌝ }
 {
     if sector.len() != 2352 {
         return refused(true, chip, 1);
@@ -159,14 +138,13 @@ fn disc(chip: Chip, ring: &mut [u8], sector: &mut [u8], address: Address, byte: 
 
 // The calls of an open chip.
 fn called(chip: Chip, ring: &mut [u8], sector: &mut [u8], line: Line) -> Answer
-    ensures told { λ r. ⌜ r ≡ called chip (now (ring .entry)) (now (sector .entry)) line ⌝ }
-    ensures ring { λ _. ⌜ now (ring .exit) ≡ called-ring chip (now (ring .entry)) (now (sector .entry)) line ⌝ }
-    ensures buffer { λ _. ⌜ now (sector .exit) ≡ called-buffer (now (sector .entry)) line ⌝ }
+    ensures { λ r. ⌜ record { answer = r; memory = now (ring .exit); sector = now (sector .exit) }
+        ≡ called chip (now (ring .entry)) (now (sector .entry)) line ⌝ }
 {
     match line {
         Line::Malformed => refused(true, chip, 2),
         Line::Open(n) => open(true, chip, n),
-        Line::Plain(call) => told(plain(chip, call)),
+        Line::Plain(call) => told(chip.call(call)),
         Line::Look => look(chip, ring),
         Line::Take => host_word(chip, ring),
         Line::Disc(address, byte) => disc(chip, ring, sector, address, byte),
@@ -195,14 +173,13 @@ pub(crate) fn run(
     sector: &mut [u8],
     line: Line,
 ) -> Answer
-    ensures told { λ r. ⌜ r ≡ answered opened chip (now (memory .entry)) (now (sector .entry)) line ⌝ }
-    ensures memory { λ _. ⌜ now (memory .exit) ≡ answered-memory opened chip (now (memory .entry)) (now (sector .entry)) line ⌝ }
-    ensures buffer { λ _. ⌜ now (sector .exit) ≡ answered-buffer opened (now (sector .entry)) line ⌝ }
+    ensures { λ r. ⌜ record { answer = r; memory = now (memory .exit); sector = now (sector .exit) }
+        ≡ answered opened chip (now (memory .entry)) (now (sector .entry)) line ⌝ }
 {
     if !opened {
         return closed(chip, line);
     }
     let place = chip.place;
-    let size = least(place.n as usize * 2560, memory.len());
+    let size = least_length(place.n as usize * 2560, memory.len());
     called(chip, &mut memory[..size], sector, line)
 }

@@ -7,12 +7,11 @@ mod lines;
 use chip::Chip;
 pub use lines::Fed;
 pub use lines::feed;
+pub use syntax::print::ROOM;
 ghost use Prim.Native.Nat.{_≤_};
 ghost use mathlib.Core.Path.{_≡_};
-ghost use Rattle.script.specs.Bench.{started, ran, ran-memory, ran-buffer, ran-out};
-
-// The least room for a printed line, which takes at most 152 bytes.
-pub const ROOM: usize = 160;
+ghost use Rattle.script.specs.Bench.{started, ran};
+ghost use Rattle.syntax.specs.Print.{longest};
 
 // Whether a chip is open, the chip, and how many lines there have been.
 pub struct Bench {
@@ -46,11 +45,9 @@ impl Bench {
     // The ring is the start of the memory; the sector is a buffer of 2,352 bytes, in which a sector line seals.
     // Ruled out: one that gives the chip a call before an accepted opening, and one that prints the counters as they were before the call.
     pub fn run(self, memory: &mut [u8], sector: &mut [u8], line: &[u8], out: &mut [u8]) -> Ran
-        ensures told { λ r. ⌜ r ≡ ran self (now (memory .entry)) (now (sector .entry)) (now (line .entry)) (now (out .entry)) ⌝ }
-        ensures memory { λ _. ⌜ now (memory .exit) ≡ ran-memory self (now (memory .entry)) (now (sector .entry)) (now (line .entry)) (now (out .entry)) ⌝ }
-        ensures buffer { λ _. ⌜ now (sector .exit) ≡ ran-buffer self (now (sector .entry)) (now (line .entry)) (now (out .entry)) ⌝ }
-        ensures out { λ _. ⌜ now (out .exit) ≡ ran-out self (now (memory .entry)) (now (sector .entry)) (now (line .entry)) (now (out .entry)) ⌝ }
-        ensures within { λ r. ⌜ r .size ≤ 152 ⌝ }
+        ensures told { λ r. ⌜ record { result = r; memory = now (memory .exit); sector = now (sector .exit); out = now (out .exit) }
+            ≡ ran self (now (memory .entry)) (now (sector .entry)) (now (line .entry)) (now (out .entry)) ⌝ }
+        ensures within { λ r. ⌜ r .size ≤ longest ⌝ }
     {
         if out.len() < ROOM {
             return Ran {

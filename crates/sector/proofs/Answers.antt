@@ -8,15 +8,16 @@ use lib.Dec.{eqb}
 use native.Mathlib.Omega.{arith}
 use borrow.Author.Tests.{eq-eqb, ne-eqb, eqb-true, eqb-false, not-false}
 use Rattle.laws.proofs.Choice.{right-true, right-false}
+use Rattle.reply.specs.Reply.{refusal, answer}
 use Rattle.scramble.specs.Scramble.{scrambled}
 use Rattle.sector.specs.declared.Address.{Address}
 use Rattle.sector.specs.declared.Judged.{Judged}
 use Rattle.sector.specs.Address.{valid}
 use Rattle.sector.specs.Sector.{framed, sealed}
 use Rattle.sector.specs.Judge.{sync-holds, mode-holds, edc-holds, address-holds, staerr, judgement}
-use Rattle.sector.specs.Calls.{answer, seal-reply, seal-sector, open-reply, open-sector, refused, judge-answer}
+use Rattle.sector.specs.Calls.{seal-reply, seal-sector, open-reply, open-sector, refused, judge-answer}
 
--- ---- the reading of the tests of STAERR, one after the other
+-- ---- the reading of the tests of STAERR, one after the other, and of the two bits
 
 module _ (s : List ℕ) where
   pub no-sync : (b : Bool) → b ≡ sync-holds s → b ≡ false → true ≡ staerr s
@@ -31,10 +32,14 @@ module _ (s : List ℕ) where
   unfolding staerr
   by-edc b c d e t e′ t′ e″ = ap not e″ ∙ simp (sym e ∙ t, sym e′ ∙ t′)
 
+  pub two-bits : (a : Address) (e h : Bool) → e ≡ staerr s → h ≡ address-holds a s → record { staerr = e; hcei = not h } ≡ judgement a s
+  unfolding judgement
+  two-bits a e h ee eh = ap₂ (λ (x y : Bool). record { staerr = x; hcei = not y }) ee eh
+
 -- ---- a sector of another length is refused
 
 module _ (s : List ℕ) (a : Address) (short : length s ≡ 2352 → ⊥) where
-  pub seal-short : (answer 1 ≡ seal-reply s a) × (s ≡ seal-sector s a)
+  pub seal-short : (refusal 1 ≡ seal-reply s a) × (s ≡ seal-sector s a)
   unfolding seal-reply seal-sector
   seal-short = (simp (ne-eqb (length s) 2352 short), simp (ne-eqb (length s) 2352 short))
 
@@ -42,7 +47,7 @@ module _ (s : List ℕ) (a : Address) (short : length s ≡ 2352 → ⊥) where
   unfolding judge-answer
   judge-short = simp (ne-eqb (length s) 2352 short)
 
-pub open-short : (s : List ℕ) → (length s ≡ 2352 → ⊥) → (answer 1 ≡ open-reply s) × (s ≡ open-sector s)
+pub open-short : (s : List ℕ) → (length s ≡ 2352 → ⊥) → (refusal 1 ≡ open-reply s) × (s ≡ open-sector s)
 unfolding open-reply open-sector
 open-short s short = (simp (ne-eqb (length s) 2352 short), simp (ne-eqb (length s) 2352 short))
 
@@ -53,7 +58,7 @@ unfolding open-reply open-sector
 open-done s full = (simp (eq-eqb (length s) 2352 full), simp (eq-eqb (length s) 2352 full))
 
 module _ (s : List ℕ) (a : Address) (full : length s ≡ 2352) where
-  pub seal-out : valid a ≡ false → (answer 3 ≡ seal-reply s a) × (s ≡ seal-sector s a)
+  pub seal-out : valid a ≡ false → (refusal 3 ≡ seal-reply s a) × (s ≡ seal-sector s a)
   unfolding seal-reply seal-sector
   seal-out v = (simp (eq-eqb (length s) 2352 full, v), simp (eq-eqb (length s) 2352 full, v))
 
@@ -68,11 +73,6 @@ module _ (s : List ℕ) (a : Address) (full : length s ≡ 2352) where
   pub judge-done : valid a ≡ true → record { number = 0; judgement = judgement a s } ≡ judge-answer s a
   unfolding judge-answer
   judge-done v = simp (eq-eqb (length s) 2352 full, v)
-
-  pub judge-bits : valid a ≡ true → (e h : Bool) → e ≡ staerr s → h ≡ address-holds a s
-      → record { number = 0; judgement = record { staerr = e; hcei = not h } } ≡ judge-answer s a
-  unfolding judgement
-  judge-bits v e h ee eh = ap₂ (λ (x y : Bool). record { number = 0; judgement = record { staerr = x; hcei = not y } }) ee eh ∙ judge-done v
 
 -- ---- a judging that is answered 0 is of a whole sector and a valid address
 

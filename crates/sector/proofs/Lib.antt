@@ -3,5 +3,6 @@ pub mod Addresses
 pub mod Frames
 pub mod Answers
 pub mod Sealed
+pub mod Received
 pub mod Damage
 pub mod Claims

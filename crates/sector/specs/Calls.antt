@@ -5,9 +5,10 @@ use Prim.Native.Nat.{ℕ}
 use lib.Dec.{eqb}
 use lib.ListN.{length}
 use Rattle.laws.specs.Choice.{if_then_else_}
+use Rattle.reply.specs.Reply.{refusal, answer}
+use Rattle.reply.specs.declared.Reply.{Reply}
 use Rattle.scramble.specs.Scramble.{scrambled}
 use Rattle.sector.specs.declared.Address.{Address}
-use Rattle.sector.specs.declared.Reply.{Reply}
 use Rattle.sector.specs.declared.Judged.{Judged}
 use Rattle.sector.specs.Address.{valid}
 use Rattle.sector.specs.Sector.{sealed}
@@ -17,19 +18,16 @@ use Rattle.sector.specs.Judge.{judgement}
 abbrev pub whole : List ℕ → Bool
 whole s = eqb (length s) 2352
 
-abbrev pub answer : ℕ → Reply
-answer n = record { number = n; result = 0 }
-
--- 1 for a wrong length, 3 for a bad address, the lowest where both apply
+-- 1 for a wrong length, 3 for a bad address, the lowest where both apply; there is no result, so it is 0
 unfoldable pub seal-reply : List ℕ → Address → Reply
-seal-reply s a = if whole s then (if valid a then answer 0 else answer 3) else answer 1
+seal-reply s a = if whole s then (if valid a then answer 0 else refusal 3) else refusal 1
 
 -- a refusal changes no byte
 unfoldable pub seal-sector : List ℕ → Address → List ℕ
 seal-sector s a = if whole s then (if valid a then sealed a s else s) else s
 
 unfoldable pub open-reply : List ℕ → Reply
-open-reply s = if whole s then answer 0 else answer 1
+open-reply s = if whole s then answer 0 else refusal 1
 
 -- descrambling is scrambling again
 unfoldable pub open-sector : List ℕ → List ℕ

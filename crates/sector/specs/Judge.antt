@@ -1,10 +1,11 @@
 -- The judgement of a descrambled sector (paper 01, "Sectors": "Judging"). Bytes 2,068 to 2,351, zeros and parity, are not judged.
 -- Assumes nothing.
-use mathlib.Core.Bool.{Bool, not, _&&_}
+use mathlib.Core.Bool.{Bool, not, _&&_, _||_}
 use mathlib.Core.List.{List}
-use Prim.Native.Nat.{ℕ}
+use Prim.Native.Nat.{ℕ, _+_}
 use lib.Dec.{eqb}
 use lib.ListN.{take, drop, getD}
+use Rattle.laws.specs.Numbers.{weight}
 use Rattle.laws.specs.Same.{same}
 use Rattle.edc.specs.Edc.{edc}
 use Rattle.sector.specs.declared.Address.{Address}
@@ -35,3 +36,11 @@ staerr s = not (sync-holds s && (mode-holds s && edc-holds s))
 -- HCEI: bytes 12 to 14 differ from the address
 unfoldable pub judgement : Address → List ℕ → Judgement
 judgement a s = record { staerr = staerr s; hcei = not (address-holds a s) }
+
+-- a good sector: neither bit is set
+abbrev pub good : Judgement → Bool
+good j = not (j .staerr || j .hcei)
+
+-- TARSTA (80h): STAERR in bit 6, HCEI in bit 0
+abbrev pub tarsta-byte : Judgement → ℕ
+tarsta-byte j = weight (j .staerr) 0x40 + weight (j .hcei) 0x01

@@ -3,8 +3,9 @@ ghost use mathlib.Core.Path.{_≡_};
 ghost use mathlib.Core.Bool.{true};
 ghost use lib.ListN.{length};
 ghost use Rattle.sector.specs.Address.{valid};
-ghost use Rattle.sector.specs.Judge.{sync-holds, mode-holds, edc-holds, address-holds, staerr};
+ghost use Rattle.sector.specs.Judge.{sync-holds, mode-holds, edc-holds, address-holds, staerr, judgement};
 use super::Address;
+use super::Judgement;
 use super::frame;
 use super::header;
 use slices::equal;
@@ -13,8 +14,7 @@ fn sync_holds(sector: &[u8]) -> bool
     requires { ⌜ length (now sector) ≡ 2352 ⌝ }
     ensures { λ r. ⌜ r ≡ sync-holds (now (sector .entry)) ⌝ }
 {
-    let sync = [0, 255, 255, 255, 255, 255, 255, 255, 255, 255, 255, 0];
-    equal(&sector[..12], &sync)
+    equal(&sector[..12], &frame::SYNC)
 }
 
 fn mode_holds(sector: &[u8]) -> bool
@@ -32,7 +32,7 @@ fn edc_holds(sector: &[u8]) -> bool
     equal(&sector[2064..2068], &code)
 }
 
-pub fn address_holds(sector: &[u8], address: Address) -> bool
+fn address_holds(sector: &[u8], address: Address) -> bool
     requires { ⌜ length (now sector) ≡ 2352 ⌝ }
     requires { ⌜ valid address ≡ true ⌝ }
     ensures { λ r. ⌜ r ≡ address-holds address (now (sector .entry)) ⌝ }
@@ -42,7 +42,7 @@ pub fn address_holds(sector: &[u8], address: Address) -> bool
 }
 
 // The cheap tests first.
-pub fn staerr(sector: &[u8]) -> bool
+fn staerr(sector: &[u8]) -> bool
     requires { ⌜ length (now sector) ≡ 2352 ⌝ }
     ensures { λ r. ⌜ r ≡ staerr (now (sector .entry)) ⌝ }
 {
@@ -53,4 +53,14 @@ pub fn staerr(sector: &[u8]) -> bool
         return true;
     }
     !edc_holds(sector)
+}
+
+pub fn judgement_of(sector: &[u8], address: Address) -> Judgement
+    requires { ⌜ length (now sector) ≡ 2352 ⌝ }
+    requires { ⌜ valid address ≡ true ⌝ }
+    ensures { λ r. ⌜ r ≡ judgement address (now (sector .entry)) ⌝ }
+{
+    let staerr = staerr(sector);
+    let hcei = !address_holds(sector, address);
+    Judgement { staerr, hcei }
 }

@@ -7,30 +7,22 @@ ghost use Rattle.sector.specs.Sector.{head, tail, low4, framed};
 use super::Address;
 use super::header;
 
+// Bytes 0 to 11 of every sector.
+pub const SYNC: [u8; 12] = [0, 255, 255, 255, 255, 255, 255, 255, 255, 255, 255, 0];
+
 // Bytes 0 to 15: sync, address and mode.
 fn head_of(address: Address) -> [u8; 16]
     requires { ⌜ valid address ≡ true ⌝ }
     ensures { λ r. ⌜ r ≡ head address ⌝ }
 {
     let a = header::bytes_of(address);
-    [
-        0,
-        255,
-        255,
-        255,
-        255,
-        255,
-        255,
-        255,
-        255,
-        255,
-        255,
-        0,
-        a[0],
-        a[1],
-        a[2],
-        1,
-    ]
+    let mut head = [0; 16];
+    bytes::copy(&SYNC, &mut head);
+    head[12] = a[0];
+    head[13] = a[1];
+    head[14] = a[2];
+    head[15] = 1;
+    head
 }
 
 // The code's four bytes, the lowest first.

@@ -1,11 +1,20 @@
-// Sectors of mode 1 (ECMA-130, clause 14; paper 01, "Sectors"): sealing user data at an address, opening a sector, and judging an
-// opened one. The calls are total: each answers every input with a reply number of paper 01's table, and a refusal changes no byte.
+// Sectors of mode 1 (ECMA-130, clause 14; paper 01, "Sectors"): sealing user data at an address, opening a sector, judging an opened
+// one, and receiving one from the disc. The first three are total: each answers every input with a reply number, and a refusal changes no byte.
 ghost use mathlib.Core.Path.{_≡_};
+ghost use mathlib.Core.Bool.{true};
+ghost use lib.ListN.{length};
+ghost use Rattle.sector.specs.Address.{valid};
+ghost use Rattle.sector.specs.Receive.{received};
 ghost use Rattle.sector.specs.Calls.{seal-reply, seal-sector, open-reply, open-sector, refused, judge-answer};
 
+mod bits;
 mod checks;
 mod frame;
 mod header;
+
+use reply::Reply;
+use reply::answer;
+use reply::refuse;
 
 // The bytes of a sector.
 const LENGTH: usize = 2352;
@@ -17,19 +26,13 @@ pub struct Address {
     pub frame: u16,
 }
 
-// A number of paper 01's reply table, and a result; sealing and opening have none and give 0.
-pub struct Reply {
-    pub number: u8,
-    pub result: u16,
-}
-
 // STAERR: sync, mode or EDC fails. HCEI: the header is not the expected address.
 pub struct Judgement {
     pub staerr: bool,
     pub hcei: bool,
 }
 
-// The reply to a judging: a number as in `Reply`, and the two bits.
+// The answer to a judging: a number as in `Reply`, and the two bits.
 pub struct Judged {
     pub number: u8,
     pub judgement: Judgement,
@@ -41,23 +44,14 @@ pub fn seal(sector: &mut [u8], address: Address) -> Reply
     ensures { λ r. ⌜ (r ≡ seal-reply (now (sector .entry)) address) × (now (sector .exit) ≡ seal-sector (now (sector .entry)) address) ⌝ }
 {
     if sector.len() != LENGTH {
-        return Reply {
-            number: 1,
-            result: 0,
-        };
+        return refuse(1);
     }
     if !address.valid() {
-        return Reply {
-            number: 3,
-            result: 0,
-        };
+        return refuse(3);
     }
     frame::put(sector, address);
     scramble::scramble(sector);
-    Reply {
-        number: 0,
-        result: 0,
-    }
+    answer(0)
 }
 
 // Descrambles a sector where it lies.
@@ -66,16 +60,10 @@ pub fn open(sector: &mut [u8]) -> Reply
     ensures { λ r. ⌜ (r ≡ open-reply (now (sector .entry))) × (now (sector .exit) ≡ open-sector (now (sector .entry))) ⌝ }
 {
     if sector.len() != LENGTH {
-        return Reply {
-            number: 1,
-            result: 0,
-        };
+        return refuse(1);
     }
     scramble::scramble(sector);
-    Reply {
-        number: 0,
-        result: 0,
-    }
+    answer(0)
 }
 
 // A judging that is refused sets neither bit.
@@ -102,10 +90,21 @@ pub fn judge(sector: &[u8], address: Address) -> Judged
     if !address.valid() {
         return refused(3);
     }
-    let staerr = checks::staerr(sector);
-    let hcei = !checks::address_holds(sector, address);
+    let judgement = checks::judgement_of(sector, address);
     Judged {
         number: 0,
-        judgement: Judgement { staerr, hcei },
+        judgement,
     }
+}
+
+// Receives a sector from the disc: it is descrambled into the block, and judged there. The sector is only read, and no copy is made.
+// Ruled out: one that judges the sector before it is descrambled, and one that leaves a bad sector's block as it was.
+pub fn receive(block: &mut [u8], sector: &[u8], expected: Address) -> Judgement
+    requires { ⌜ length (now block) ≡ 2352 ⌝ }
+    requires { ⌜ length (now sector) ≡ 2352 ⌝ }
+    requires { ⌜ valid expected ≡ true ⌝ }
+    ensures { λ r. ⌜ record { bytes = now (block .exit); judgement = r } ≡ received expected (now (sector .entry)) ⌝ }
+{
+    scramble::scramble_into(block, sector);
+    checks::judgement_of(block, expected)
 }

@@ -1,6 +1,5 @@
-// Slices of bytes and their lengths: what is not about CD-ROMs.
+// Slices of bytes: what is not about CD-ROMs.
 ghost use mathlib.Core.Path.{_≡_};
-ghost use Prim.Native.Nat.{min};
 ghost use lib.ListN.{length, replicate};
 ghost use Rattle.laws.specs.Same.{same};
 
@@ -32,12 +31,4 @@ pub fn fill(bytes: &mut [u8], byte: u8)
         bytes[i] = byte;
         i += 1;
     }
-}
-
-// The lesser of two lengths.
-// Ruled out: one that gives the greater, and one that gives the first.
-pub fn least(a: usize, b: usize) -> usize
-    ensures { λ r. ⌜ r ≡ min a b ⌝ }
-{
-    if a < b { a } else { b }
 }

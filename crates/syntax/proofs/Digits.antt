@@ -47,7 +47,3 @@ length-decimal (suc k) n h =
     (λ (l : 10 ≤ n). let below : n / 10 < 10 ^ suc k = div-lt-iff-lt-mul (omega arith) .1 (subst (λ (p : ℕ). n < p) (pow-suc 10 (suc k)) h) in
     omega (arith, length-more n l, length-decimal k (n / 10) below))
     (lt-or-ge n 10)
-
--- so a number of 64 bits takes 20
-pub twenty : (n : ℕ) → n < 2 ^ 64 → length (decimal n) ≤ 20
-twenty n h = length-decimal 19 n (omega arith)

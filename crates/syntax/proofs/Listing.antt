@@ -1,8 +1,8 @@
--- A line of paper 01's listing, and the largest number of a call, as the definitions give them. Assumes nothing.
+-- A line of paper 01's listing, the largest number of a call, and the length of the longest line, as the definitions give them. Assumes nothing.
 use mathlib.Core.Path.{_≡_, refl}
 use mathlib.Core.Bool.{false}
 use mathlib.Core.List.{[], _∷_}
-use Rattle.syntax.specs.Print.{printed, decimal, decimal-upto}
+use Rattle.syntax.specs.Print.{printed, longest, decimal, decimal-upto}
 
 -- "n=5 answer=0 out=0 tcc=1 bufc=1 irq=0" and the line end
 line-5 : printed (record { lines = 5; number = 0; out = 0; tcc = 1; bufc = 1; irq = false })
@@ -15,3 +15,7 @@ line-5 = refl
 largest : decimal 65535 ≡ 54 ∷ 53 ∷ 53 ∷ 51 ∷ 53 ∷ []
 unfolding decimal decimal-upto
 largest = refl
+
+-- 31 bytes of keys, 54 digits and the line's end
+longest-is : longest ≡ 86
+longest-is = refl

@@ -8,20 +8,17 @@ use native.Mathlib.Nat.{add-zero}
 use native.Mathlib.Omega.{arith}
 use lib.Dec.{leb}
 use lib.ListN.{length, take, getD, drop, set, drop-of-length-le}
-use lib.Seq.{drop-cons, append-snoc, take-set-le, take-suc-set}
+use lib.Seq.{append-snoc, take-set-le, take-suc-set}
 use borrow.Author.Tests.{leb-true, not-false}
 use Rattle.laws.specs.Choice.{if_then_else_}
 use Rattle.laws.proofs.Choice.{left-true}
+use Rattle.laws.proofs.Ends.{drop-next}
 use Rattle.syntax.specs.Grammar.{digit, mark, grows, form, next, onward}
 use Rattle.syntax.specs.declared.numbers.Numbers.{Numbers}
 
--- what is left of the list from a place on, one byte further
-rest : (xs : List ℕ) (i : ℕ) → i < length xs → drop i xs ≡ getD xs i 0 ∷ drop (i + 1) xs
-rest xs i h = drop-cons xs i 0 h ∙ ap (λ (n : ℕ). getD xs i 0 ∷ drop n xs) (sym (add-one i))
-
 pub onward-step : (n m : Numbers) (xs : List ℕ) (i : ℕ) → i < length xs → m ≡ next n (getD xs i 0) → onward m (drop (i + 1) xs) ≡ onward n (drop i xs)
 unfolding onward
-onward-step n m xs i h e = ap (λ (k : Numbers). onward k (drop (i + 1) xs)) e ∙ ap (onward n) (sym (rest xs i h))
+onward-step n m xs i h e = ap (λ (k : Numbers). onward k (drop (i + 1) xs)) e ∙ ap (onward n) (sym (drop-next xs i h))
 
 pub onward-end : (n : Numbers) (xs : List ℕ) (i : ℕ) → length xs ≤ i → onward n (drop i xs) ≡ n
 unfolding onward
@@ -52,7 +49,7 @@ form-step inside d i k g x xs out hi hk ex eg ed =
     ∙ ap (λ (t : Bool). take (k + (if inside && digit (getD xs i 0) then 0 else 1)) (set out k x) ++ form t (drop (i + 1) xs)) ed
     ∙ form-cases inside (digit (getD xs i 0)) k x out (drop (i + 1) xs) hk
     ∙ ap (λ (m : ℕ). take k out ++ (if inside && digit (getD xs i 0) then form true (drop (i + 1) xs) else m ∷ form (digit (getD xs i 0)) (drop (i + 1) xs))) ex
-    ∙ ap (λ (l : List ℕ). take k out ++ form inside l) (sym (rest xs i hi))
+    ∙ ap (λ (l : List ℕ). take k out ++ form inside l) (sym (drop-next xs i hi))
 
 grows-cases : (t : Bool) → (if t then 0 else 1) ≤ 1
 grows-cases true = omega arith

@@ -14,6 +14,10 @@ use Rattle.syntax.proofs.Digits.{decimal-one, decimal-more}
 written : {l : List ℕ} {at x y : ℕ} → x ≡ y → Written l at (y ∷ []) (sets l at (x ∷ [])) (at + 1)
 written {l} {at} e = record { bytes = ap (λ (v : ℕ). sets l at (v ∷ [])) e; place = refl }
 
+-- nothing
+pub none : {l : List ℕ} {at : ℕ} → Written l at [] l at
+none = record { bytes = refl; place = omega arith }
+
 -- ys after xs
 pub then : {l m o xs ys : List ℕ} {at e f : ℕ} → Written l at xs m e → Written m e ys o f → Written l at (xs ++ ys) o f
 then {l} {m} {o} {xs} {ys} {at} w v = record {

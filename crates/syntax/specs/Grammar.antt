@@ -11,7 +11,7 @@ use Rattle.syntax.specs.Forms.{open-form, read-form, block-form, packet-
 use Rattle.syntax.specs.declared.numbers.Numbers.{Numbers}
 use Rattle.syntax.specs.declared.line.Line.{Line}
 use Rattle.syntax.specs.declared.line.Line.the-variants.{Malformed, Open, Plain, Look, Take, Disc}
-use Rattle.syntax.specs.declared.line.Call.the-variants.{Read, Write, Block, Window, Expect, Packet, Reset, Command, Send, Status, Srst}
+use Rattle.calls.specs.declared.Call.the-variants.{Read, Write, SetBlock, SetWindow, SetExpected, PacketByte, Reset, Command, PacketWord, Status, Srst}
 
 -- `0` to `9`
 abbrev pub digit : ℕ → Bool
@@ -70,8 +70,8 @@ bare f =
 unfoldable pub several : List ℕ → Numbers → Line
 several f n =
     if same f write-form then Plain (Write (n .c) (n .d))
-    else if same f window-form then Plain (Window (n .c) (n .d))
-    else if same f address-form then Plain (Expect (record { minute = n .b; second = n .c; frame = n .d }))
+    else if same f window-form then Plain (SetWindow (n .c) (n .d))
+    else if same f address-form then Plain (SetExpected (record { minute = n .b; second = n .c; frame = n .d }))
     else if same f sector-form then Disc (record { minute = n .a; second = n .b; frame = n .c }) (n .d)
     else bare f
 
@@ -80,10 +80,10 @@ unfoldable pub named : List ℕ → Numbers → Line
 named f n =
     if same f open-form then Open (n .d)
     else if same f read-form then Plain (Read (n .d))
-    else if same f block-form then Plain (Block (n .d))
-    else if same f packet-form then Plain (Packet (n .d))
+    else if same f block-form then Plain (SetBlock (n .d))
+    else if same f packet-form then Plain (PacketByte (n .d))
     else if same f command-form then Plain (Command (n .d))
-    else if same f send-form then Plain (Send (n .d))
+    else if same f send-form then Plain (PacketWord (n .d))
     else several f n
 
 -- malformed: longer than 80 bytes, a run above 65,535, or none of the forms

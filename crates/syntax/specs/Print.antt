@@ -4,7 +4,7 @@ use mathlib.Core.Path.{_≡_}
 use mathlib.Core.List.{List, [], _∷_, _++_}
 use Prim.Native.Nat.{ℕ, zero, suc, _+_, _/_, _%_}
 use lib.Dec.{ltb}
-use lib.ListN.{length}
+use lib.ListN.{length, drop}
 use lib.Seq.{sets}
 use Rattle.laws.specs.Choice.{if_then_else_}
 use Rattle.syntax.specs.declared.print.Shown.{Shown}
@@ -26,23 +26,48 @@ field key n = key ++ decimal n
 abbrev pub flag : Bool → ℕ
 flag b = if b then 1 else 0
 
--- the call: its number among the lines, and its reply
-abbrev pub call-text : Shown → List ℕ
-call-text s =
-    field (110 ∷ 61 ∷ []) (s .lines)  -- "n="
-    ++ field (32 ∷ 97 ∷ 110 ∷ 115 ∷ 119 ∷ 101 ∷ 114 ∷ 61 ∷ []) (s .number)  -- " answer="
-    ++ field (32 ∷ 111 ∷ 117 ∷ 116 ∷ 61 ∷ []) (s .out)  -- " out="
+-- a row of the line: a key, the number behind it, and the most digits that the number's type allows
+pub record Row : Type 0 where
+  pub key : List ℕ
+  pub number : Shown → ℕ
+  pub digits : ℕ
 
--- the chip after it
-abbrev pub chip-text : Shown → List ℕ
-chip-text s =
-    field (32 ∷ 116 ∷ 99 ∷ 99 ∷ 61 ∷ []) (s .tcc)  -- " tcc="
-    ++ field (32 ∷ 98 ∷ 117 ∷ 102 ∷ 99 ∷ 61 ∷ []) (s .bufc)  -- " bufc="
-    ++ field (32 ∷ 105 ∷ 114 ∷ 113 ∷ 61 ∷ []) (flag (s .irq))  -- " irq="
+-- the line: the call's number among the lines and its reply, and the chip after it, as in `n=5 answer=0 out=0 tcc=1 bufc=1 irq=0`
+abbrev pub rows : List Row
+rows =
+    record { key = 110 ∷ 61 ∷ []; number = λ s. s .lines; digits = 20 }  -- "n="
+    ∷ record { key = 32 ∷ 97 ∷ 110 ∷ 115 ∷ 119 ∷ 101 ∷ 114 ∷ 61 ∷ []; number = λ s. s .number; digits = 3 }  -- " answer="
+    ∷ record { key = 32 ∷ 111 ∷ 117 ∷ 116 ∷ 61 ∷ []; number = λ s. s .out; digits = 20 }  -- " out="
+    ∷ record { key = 32 ∷ 116 ∷ 99 ∷ 99 ∷ 61 ∷ []; number = λ s. s .tcc; digits = 5 }  -- " tcc="
+    ∷ record { key = 32 ∷ 98 ∷ 117 ∷ 102 ∷ 99 ∷ 61 ∷ []; number = λ s. s .bufc; digits = 5 }  -- " bufc="
+    ∷ record { key = 32 ∷ 105 ∷ 114 ∷ 113 ∷ 61 ∷ []; number = λ s. flag (s .irq); digits = 1 }  -- " irq="
+    ∷ []
 
--- the whole line with its end, as in `n=5 answer=0 out=0 tcc=1 bufc=1 irq=0`
+-- rows one after the other
+abbrev pub texts : List Row → Shown → List ℕ
+texts [] s = []
+texts (r ∷ rs) s = field (r .key) (r .number s) ++ texts rs s
+
+-- the whole line with its end
 unfoldable pub printed : Shown → List ℕ
-printed s = call-text s ++ chip-text s ++ (10 ∷ [])
+printed s = texts rows s ++ (10 ∷ [])
+
+-- the most bytes that rows take
+abbrev pub most : List Row → ℕ
+most [] = 0
+most (r ∷ rs) = length (r .key) + r .digits + most rs
+
+-- no line is longer
+abbrev pub longest : ℕ
+longest = most rows + 1
+
+-- the room that is lent for a line: more than the longest, so that a further row changes no caller
+abbrev pub room : ℕ
+room = 160
+
+-- bytes put at the front of a buffer: they, and then what stood behind them
+abbrev pub over : List ℕ → List ℕ → List ℕ
+over bytes buffer = bytes ++ drop (length bytes) buffer
 
 -- for private contracts: a buffer after text was written into it at a place, and the place after the text
 pub record Written (before : List ℕ) (at : ℕ) (text after : List ℕ) (end : ℕ) : Type 0 where

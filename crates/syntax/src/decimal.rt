@@ -39,11 +39,10 @@ fn decimal(out: &mut [u8], at: usize, n: u64) -> usize
     end + 1
 }
 
-// Writes a key and its number, which takes at most 20 digits.
+// Writes a key and its number.
 pub(crate) fn field(out: &mut [u8], at: usize, key: &[u8], n: u64) -> usize
-    requires { ⌜ at + length (now key) + 20 ≤ length (now out) ⌝ }
+    requires { ⌜ at + length (now key) + length (decimal n) ≤ length (now out) ⌝ }
     ensures { λ r. ⌜ Written (now (out .entry)) at (field (now (key .entry)) n) (now (out .exit)) r ⌝ }
-    ensures { λ r. ⌜ r ≤ at + length (now (key .entry)) + 20 ⌝ }
 {
     let start = text(out, at, key);
     decimal(out, start, n)

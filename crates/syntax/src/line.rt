@@ -3,12 +3,14 @@
 use crate::form::form;
 use crate::numbers::Numbers;
 use crate::numbers::values;
+use calls::Call;
 use sector::Address;
 use slices::equal;
 ghost use mathlib.Core.Path.{_≡_};
 ghost use Rattle.syntax.specs.Grammar.{bare, several, named, parse};
 
-// The calls of the bench, by their names in docs/BENCH.md: `word` is `Take`, `sector` is `Disc`.
+// The calls of the bench, by their names in docs/BENCH.md: `word` is `Take`, `sector` is `Disc`, and the calls of the chip that are lent no
+// memory are `Plain`: `block`, `window` and `address` set, `packet` is a packet byte and `send` a packet word.
 pub enum Line {
     Malformed,
     Open(u16),
@@ -16,21 +18,6 @@ pub enum Line {
     Look,
     Take,
     Disc(Address, u16),
-}
-
-// The calls of the chip that are lent no memory: `address` is `Expect`, `send` a packet word.
-pub enum Call {
-    Read(u16),
-    Write(u16, u16),
-    Block(u16),
-    Window(u16, u16),
-    Expect(Address),
-    Packet(u16),
-    Reset,
-    Command(u16),
-    Send(u16),
-    Status,
-    Srst,
 }
 
 // The calls with no number.
@@ -63,7 +50,7 @@ fn several(form: &[u8], n: Numbers) -> Line
         return Line::Plain(Call::Write(n.c, n.d));
     }
     if equal(form, b"call=window offset=0 words=0") {
-        return Line::Plain(Call::Window(n.c, n.d));
+        return Line::Plain(Call::SetWindow(n.c, n.d));
     }
     if equal(form, b"call=address min=0 sec=0 frame=0") {
         let address = Address {
@@ -71,7 +58,7 @@ fn several(form: &[u8], n: Numbers) -> Line
             second: n.c,
             frame: n.d,
         };
-        return Line::Plain(Call::Expect(address));
+        return Line::Plain(Call::SetExpected(address));
     }
     if equal(form, b"call=sector min=0 sec=0 frame=0 fill=0") {
         let address = Address {
@@ -95,16 +82,16 @@ fn named(form: &[u8], n: Numbers) -> Line
         return Line::Plain(Call::Read(n.d));
     }
     if equal(form, b"call=block number=0") {
-        return Line::Plain(Call::Block(n.d));
+        return Line::Plain(Call::SetBlock(n.d));
     }
     if equal(form, b"call=packet index=0") {
-        return Line::Plain(Call::Packet(n.d));
+        return Line::Plain(Call::PacketByte(n.d));
     }
     if equal(form, b"call=command code=0") {
         return Line::Plain(Call::Command(n.d));
     }
     if equal(form, b"call=send word=0") {
-        return Line::Plain(Call::Send(n.d));
+        return Line::Plain(Call::PacketWord(n.d));
     }
     several(form, n)
 }

@@ -1,10 +1,12 @@
 // The line that the bench answers.
 ghost use mathlib.Core.Path.{_≡_};
-ghost use mathlib.Core.List.{_++_};
 ghost use Prim.Native.Nat.{_+_, _≤_};
-ghost use lib.ListN.{length, drop};
-ghost use Rattle.syntax.specs.Print.{Written, flag, call-text, chip-text, printed};
+ghost use lib.ListN.{length, take, drop};
+ghost use Rattle.syntax.specs.Print.{Written, flag, rows, texts, most, printed, longest, room, over};
 use super::decimal;
+
+// The room that is lent for a line: `room` of the definitions.
+pub const ROOM: usize = 160;
 
 // What the line shows: how many lines were read, the reply's number and result, TCC, BUFC and the host interrupt.
 pub struct Shown {
@@ -23,22 +25,22 @@ fn flag(b: bool) -> u64
     if b { 1 } else { 0 }
 }
 
-// The line's first half, at the front of a buffer: 15 bytes of keys, and three numbers of at most 20 digits.
+// The line's first three rows, at the front of a buffer.
 fn call_text(out: &mut [u8], s: Shown) -> usize
-    requires { ⌜ 75 ≤ length (now out) ⌝ }
-    ensures { λ r. ⌜ Written (now (out .entry)) 0 (call-text s) (now (out .exit)) r ⌝ }
-    ensures { λ r. ⌜ r ≤ 75 ⌝ }
+    requires { ⌜ most (take 3 rows) ≤ length (now out) ⌝ }
+    ensures { λ r. ⌜ Written (now (out .entry)) 0 (texts (take 3 rows) s) (now (out .exit)) r ⌝ }
+    ensures { λ r. ⌜ r ≤ most (take 3 rows) ⌝ }
 {
     let lines = decimal::field(out, 0, b"n=", s.lines);
     let number = decimal::field(out, lines, b" answer=", s.number as u64);
     decimal::field(out, number, b" out=", s.out)
 }
 
-// Its second half, at a place: 16 bytes of keys, and three numbers.
+// The others, at a place.
 fn chip_text(out: &mut [u8], at: usize, s: Shown) -> usize
-    requires { ⌜ at + 76 ≤ length (now out) ⌝ }
-    ensures { λ r. ⌜ Written (now (out .entry)) at (chip-text s) (now (out .exit)) r ⌝ }
-    ensures { λ r. ⌜ r ≤ at + 76 ⌝ }
+    requires { ⌜ at + most (drop 3 rows) ≤ length (now out) ⌝ }
+    ensures { λ r. ⌜ Written (now (out .entry)) at (texts (drop 3 rows) s) (now (out .exit)) r ⌝ }
+    ensures { λ r. ⌜ r ≤ at + most (drop 3 rows) ⌝ }
 {
     let tcc = decimal::field(out, at, b" tcc=", s.tcc as u64);
     let bufc = decimal::field(out, tcc, b" bufc=", s.bufc as u64);
@@ -48,10 +50,10 @@ fn chip_text(out: &mut [u8], at: usize, s: Shown) -> usize
 // Writes the line at the front of a buffer, which has room for it, and answers its length.
 // Ruled out: one that shows BUFC for TCC, and one that puts a zero in front of a number.
 pub fn print(out: &mut [u8], s: Shown) -> usize
-    requires { ⌜ 160 ≤ length (now out) ⌝ }
+    requires { ⌜ room ≤ length (now out) ⌝ }
     ensures { λ r. ⌜ r ≡ length (printed s) ⌝ }
-    ensures { λ _. ⌜ now (out .exit) ≡ printed s ++ drop (length (printed s)) (now (out .entry)) ⌝ }
-    ensures { λ r. ⌜ r ≤ 152 ⌝ }
+    ensures { λ _. ⌜ now (out .exit) ≡ over (printed s) (now (out .entry)) ⌝ }
+    ensures { λ r. ⌜ r ≤ longest ⌝ }
 {
     let call = call_text(out, s);
     let chip = chip_text(out, call, s);

@@ -1,9 +1,9 @@
 // What the calls refuse: a length other than 2,352 by reply 1, an address out of range by reply 3, and no byte changed.
 use super::tally;
 use super::tally::Tally;
+use reply::Reply;
 use sector::Address;
 use sector::Judged;
-use sector::Reply;
 
 const START: Address = Address {
     minute: 0,

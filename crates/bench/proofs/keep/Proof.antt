@@ -13,11 +13,11 @@ Inv-loop input₀ rest end size i₀ input i = (i ≤ size) × (length input ≡
 abbrev μ-loop : tie.MeasureT-loop
 μ-loop input₀ rest end size i₀ input i = size - i
 
-sub-least : tie.Need-sub-least Inv-loop μ-loop
-sub-least c = search needs
+sub-least-length : tie.Need-sub-least-length Inv-loop μ-loop
+sub-least-length c = search needs
 
-least-requires : tie.Need-least-requires Inv-loop μ-loop
-least-requires c κs = search needs
+least-length-requires : tie.Need-least-length-requires Inv-loop μ-loop
+least-length-requires c κs = search needs
 
 loop-holds : tie.Need-loop-holds Inv-loop μ-loop
 loop-holds c = (omega arith, refl)
@@ -52,8 +52,8 @@ keep-spec =
     (tie.spec
     Inv-loop
     μ-loop
-    sub-least
-    least-requires
+    sub-least-length
+    least-length-requires
     loop-holds
     add-input
     slice-read-input

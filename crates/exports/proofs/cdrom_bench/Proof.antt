@@ -1,10 +1,10 @@
 -- `exports::cdrom_bench` meets its contract. Assumes nothing.
-use mathlib.Core.List.{[]}
 use mathlib.Core.Path.{ap, _∙_}
-use lib.ListN.{length}
 use Rattle.script.specs.declared.lines.Fed.{Fed}
 use Rattle.script.specs.declared.Bench.{Bench}
-use Rattle.script.specs.Feed.{begun, fed, fed-out}
+use Rattle.script.specs.Bench.{Left}
+use Rattle.script.specs.Feed.{fed-text}
+use Rattle.exports.specs.Words.{with-size}
 use borrow.Author.Needs.{needs}
 use Rattle.exports.proofs.cdrom_bench.Statement.{statement}
 use Rattle.exports.proofs.cdrom_bench.Tie as tie
@@ -26,18 +26,10 @@ same-length-3 c = search needs
 
 returns : tie.Need-returns
 returns c =
-    let M = c .before .before .before .before .before .before .before .before .before .before .before .before .before .before .before .args .memory .now in
-    let Z = c .before .before .before .before .before .before .before .before .before .before .before .before .before .before .before .args .sector .now in
-    let T = c .before .before .before .before .before .before .before .before .before .before .before .before .before .before .before .args .text .now in
-    let O = c .before .before .before .before .before .before .before .before .before .before .before .before .before .before .before .args .out .now in
-    let f = c .before .before .before .before .before .before .feed .ensures in
-    let e = c .before .before .before .before .before .before .before .before .before .before .start .ensures in (
-      ap (λ (r : Fed). r .size) (f .0) ∙ ap (λ (b : Bench). length (fed (length O) (begun b M Z) [] T .printed)) e,
-      (
-        f .1 .0 ∙ ap (λ (b : Bench). fed (length O) (begun b M Z) [] T .memory) e,
-        (f .1 .1 .0 ∙ ap (λ (b : Bench). fed (length O) (begun b M Z) [] T .sector) e, f .1 .1 .1 .0 ∙ ap (λ (b : Bench). fed-out (fed (length O) (begun b M Z) [] T) O) e),
-      ),
-    )
+    let back = c .before .before .before .before .before .before in
+    let a = back .before .before .before .before .before .before .before .before .before .args in
+    ap (λ (f : Left Fed). with-size f) (back .feed .ensures .0)
+    ∙ ap (λ (b : Bench). with-size (fed-text b (a .memory .now) (a .sector .now) (a .text .now) (a .out .now))) (back .before .before .before .before .start .ensures)
 
 pub cdrom-bench-spec : {M : Type 1} → statement M
 cdrom-bench-spec =

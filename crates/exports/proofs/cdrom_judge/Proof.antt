@@ -19,12 +19,12 @@ packed-requires c κs = search needs
 
 returns : tie.Need-returns
 returns c =
-    let s = c .before .before .before .before .before .args .sector .now in
-    let judged = c .before .before .judge in
+    let s = c .before .before .before .before .before .before .args .sector .now in
+    let judged = c .before .before .before .judge in
     c .packed .ensures
     ∙ ap (packed (judged .result .number)) (c .before .tarsta .ensures)
     ∙ ap judged-word (judged .ensures)
-    ∙ ap (judge-word s) (c .before .before .before .at .ensures)
+    ∙ ap (judge-word s) (c .before .before .before .before .at .ensures)
 
 pub cdrom-judge-spec : {M : Type 1} → statement M
 cdrom-judge-spec = tie.close (tie.spec at-requires judge-requires tarsta-requires packed-requires returns)

@@ -3,17 +3,15 @@ use mathlib.Core.Path.{sym}
 use native.Mathlib.Omega.{arith}
 use borrow.Author.Tests.{lt-ltb}
 use Rattle.laws.proofs.Choice.{if-true}
-use Rattle.script.specs.Bench.{ran, ran-memory, ran-buffer, ran-out}
-use Rattle.script.proofs.Running.{runs, runs-memory, runs-buffer, runs-out}
+use Rattle.script.specs.Bench.{ran}
+use Rattle.script.proofs.Running.{runs}
 use borrow.Author.Needs.{needs}
 use Rattle.script.proofs.Bench.run.Statement.{statement}
 use Rattle.script.proofs.Bench.run.Tie as tie
 
 returns : tie.Need-returns
-unfolding ran ran-memory ran-buffer ran-out
-returns c =
-    let t = lt-ltb _ _ (c .if1 .taken) in
-    (sym (if-true _ _ _ t), (sym (if-true _ _ _ t), (sym (if-true _ _ _ t), (sym (if-true _ _ _ t), omega arith))))
+unfolding ran
+returns c = (sym (if-true _ _ _ (lt-ltb _ _ (c .if1 .taken))), omega arith)
 
 parse-requires : tie.Need-parse-requires
 parse-requires c κs = search needs
@@ -49,19 +47,9 @@ returns-2 c =
     let add = c .before .before .before .before .before .before .wrapping-add-u64 in
     let shown = c .before .before .before .before .shown in
     let print = c .before .before .before .print in (
-      runs (a .self) (a .memory .now) (a .sector .now) (a .line .now) (a .out .now) (if1 .left) _ (parse .ensures) (run .result)
-          (add .result) (shown .result) (run .ensures .0) (add .ensures) (shown .ensures) _ (print .ensures .0),
-      (
-        runs-memory (a .self) (a .memory .now) (a .sector .now) (a .line .now) (a .out .now) (if1 .left) _ (parse .ensures) _ (run .ensures .1 .0),
-        (
-          runs-buffer (a .self) (a .memory .now) (a .sector .now) (a .line .now) (a .out .now) (if1 .left) _ (parse .ensures) _ (run .ensures .1 .1),
-          (
-            runs-out (a .self) (a .memory .now) (a .sector .now) (a .line .now) (a .out .now) (if1 .left) _ (parse .ensures) (run .result)
-                (add .result) (shown .result) (run .ensures .0) (add .ensures) (shown .ensures) _ (print .ensures .1 .0),
-            print .ensures .1 .1,
-          ),
-        ),
-      ),
+      runs (a .self) (a .memory .now) (a .sector .now) (a .line .now) (a .out .now) (if1 .left) _ (run .result) _ _ _ (add .result) _ (shown .result)
+          (parse .ensures) (run .ensures) (add .ensures) (shown .ensures) (print .ensures .0) (print .ensures .1 .0),
+      print .ensures .1 .1,
     )
 
 pub run-spec : {M : Type 1} → statement M

@@ -1,7 +1,7 @@
 -- `script::call::called` meets its contract. Assumes nothing.
 use mathlib.Core.Path.{sym, ap, _∙_}
 use Rattle.chip.specs.declared.Told.{Told}
-use Rattle.script.specs.Answers.{of-told, called, called-ring, called-buffer}
+use Rattle.script.specs.Answers.{of-told, unchanged, called}
 use borrow.Author.Needs.{needs}
 use Rattle.script.proofs.call.called.Statement.{statement}
 use Rattle.script.proofs.call.called.Tie as tie
@@ -21,8 +21,8 @@ open-requires c κs = search needs
 enum-known-line-2 : tie.Need-enum-known-line-2
 enum-known-line-2 c = search needs
 
-plain-requires : tie.Need-plain-requires
-plain-requires c κs = search needs
+call-requires : tie.Need-call-requires
+call-requires c κs = search needs
 
 told-requires : tie.Need-told-requires
 told-requires c κs = search needs
@@ -46,7 +46,7 @@ disc-requires : tie.Need-disc-requires
 disc-requires c κs = search needs
 
 returns : tie.Need-returns
-unfolding called called-ring called-buffer
+unfolding called
 returns c =
     let a = c .before .before .before .before .before .args in
     let enum-told = c .before .enum-told in
@@ -54,10 +54,10 @@ returns c =
     let R = a .ring .now in
     let S = a .sector .now in
     let e = sym (enum-told .given .1) in
-    (c .refused .ensures ∙ ap (called C R S) e, (ap (called-ring C R S) e, ap (called-buffer S) e))
+    ap (unchanged R S) (c .refused .ensures) ∙ ap (called C R S) e
 
 returns-2 : tie.Need-returns-2
-unfolding called called-ring called-buffer
+unfolding called
 returns-2 c =
     let a = c .before .before .before .before .before .before .args in
     let line = c .before .before .line in
@@ -65,25 +65,25 @@ returns-2 c =
     let R = a .ring .now in
     let S = a .sector .now in
     let e = sym (line .given .1) in
-    (c .«open» .ensures ∙ ap (called C R S) e, (ap (called-ring C R S) e, ap (called-buffer S) e))
+    ap (unchanged R S) (c .«open» .ensures) ∙ ap (called C R S) e
 
 returns-3 : tie.Need-returns-3
-unfolding called called-ring called-buffer
+unfolding called
 returns-3 c =
     let a = c .before .before .before .before .before .before .before .args in
     let line2 = c .before .before .before .line2 in
-    let plain = c .before .plain in
+    let call = c .before .call in
     let C = a .chip in
     let R = a .ring .now in
     let S = a .sector .now in
     let e = sym (line2 .given .1) in
-    (c .told .ensures ∙ ap (λ (t : Told). of-told t) (plain .ensures) ∙ ap (called C R S) e, (ap (called-ring C R S) e, ap (called-buffer S) e))
+    ap (unchanged R S) (c .told .ensures ∙ ap (λ (t : Told). of-told t) (call .ensures)) ∙ ap (called C R S) e
 
 same-length : tie.Need-same-length
 same-length c = search needs
 
 returns-4 : tie.Need-returns-4
-unfolding called called-ring called-buffer
+unfolding called
 returns-4 c =
     let a = c .before .before .before .before .before .before .args in
     let enum-told2 = c .before .before .enum-told2 in
@@ -91,13 +91,13 @@ returns-4 c =
     let R = a .ring .now in
     let S = a .sector .now in
     let e = sym (enum-told2 .given .1) in
-    (c .look .ensures ∙ ap (called C R S) e, (ap (called-ring C R S) e, ap (called-buffer S) e))
+    ap (unchanged R S) (c .look .ensures) ∙ ap (called C R S) e
 
 same-length-2 : tie.Need-same-length-2
 same-length-2 c = search needs
 
 returns-5 : tie.Need-returns-5
-unfolding called called-ring called-buffer
+unfolding called
 returns-5 c =
     let a = c .before .before .before .before .before .before .args in
     let enum-told3 = c .before .before .enum-told3 in
@@ -105,7 +105,7 @@ returns-5 c =
     let R = a .ring .now in
     let S = a .sector .now in
     let e = sym (enum-told3 .given .1) in
-    (c .host-word .ensures ∙ ap (called C R S) e, (ap (called-ring C R S) e, ap (called-buffer S) e))
+    ap (unchanged R S) (c .host-word .ensures) ∙ ap (called C R S) e
 
 same-length-3 : tie.Need-same-length-3
 same-length-3 c = search needs
@@ -114,7 +114,7 @@ same-length-4 : tie.Need-same-length-4
 same-length-4 c = search needs
 
 returns-6 : tie.Need-returns-6
-unfolding called called-ring called-buffer
+unfolding called
 returns-6 c =
     let a = c .before .before .before .before .before .before .before .before .before .before .before .before .args in
     let line3 = c .before .before .before .before .before .before .before .before .line3 in
@@ -123,7 +123,7 @@ returns-6 c =
     let R = a .ring .now in
     let S = a .sector .now in
     let e = sym (line3 .given .1) in
-    (disc .ensures .0 ∙ ap (called C R S) e, (disc .ensures .1 .0 ∙ ap (called-ring C R S) e, disc .ensures .1 .1 ∙ ap (called-buffer S) e))
+    disc .ensures ∙ ap (called C R S) e
 
 pub called-spec : {M : Type 1} → statement M
 called-spec =
@@ -134,7 +134,7 @@ called-spec =
     enum-known-line
     open-requires
     enum-known-line-2
-    plain-requires
+    call-requires
     told-requires
     enum-told-2
     look-requires

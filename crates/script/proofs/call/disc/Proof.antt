@@ -1,10 +1,9 @@
 -- `script::call::disc` meets its contract. Assumes nothing.
-use mathlib.Core.Path.{refl, ap, _∙_}
-use borrow.Author.Tests.{eq-eqb, ne-eqb}
-use Rattle.chip.specs.Calls as calls
-use Rattle.chip.specs.declared.Told.{Told}
-use Rattle.script.specs.Answers.{of-told}
-use Rattle.script.proofs.Answering.{disc-not, disc-not-ring, disc-done, disc-done-ring, number-size, buffer-size, number-fill, buffer-fill, seal-number, seal-buffer}
+use mathlib.Core.Path.{ap, _∙_}
+use Rattle.chip.specs.Calls.{Lent}
+use Rattle.script.specs.Answers.{Answered, unchanged, of-told}
+use Rattle.script.specs.declared.call.Answer.{Answer}
+use Rattle.script.proofs.Answering.{disc-size, disc-fill, disc-not, disc-done}
 use borrow.Author.Needs.{needs}
 use Rattle.script.proofs.call.disc.Statement.{statement}
 use Rattle.script.proofs.call.disc.Tie as tie
@@ -20,10 +19,8 @@ returns c =
     let R = a .ring .now in
     let S = a .sector .now in
     let A = a .address in
-    let Y = a .byte in (
-      c .refused .ensures ∙ disc-not C R S A Y 1 (number-size S A Y (if1 .taken)) refl,
-      (disc-not-ring C R S A Y 1 (number-size S A Y (if1 .taken)) refl, buffer-size S A Y (if1 .taken)),
-    )
+    let Y = a .byte in
+    ap (unchanged R S) (c .refused .ensures) ∙ disc-size C R S A Y (if1 .taken)
 
 refused-requires-2 : tie.Need-refused-requires-2
 refused-requires-2 c κs = search needs
@@ -37,10 +34,8 @@ returns-2 c =
     let R = a .ring .now in
     let S = a .sector .now in
     let A = a .address in
-    let Y = a .byte in (
-      c .refused2 .ensures ∙ disc-not C R S A Y 3 (number-fill S A Y (if1 .left) (if2 .taken)) refl,
-      (disc-not-ring C R S A Y 3 (number-fill S A Y (if1 .left) (if2 .taken)) refl, buffer-fill S A Y (if1 .left) (if2 .taken)),
-    )
+    let Y = a .byte in
+    ap (unchanged R S) (c .refused2 .ensures) ∙ disc-fill C R S A Y (if1 .left) (if2 .taken)
 
 cast-unsealed : tie.Need-cast-unsealed
 cast-unsealed c = search needs
@@ -70,11 +65,8 @@ returns-3 c =
     let S = a .sector .now in
     let A = a .address in
     let Y = a .byte in
-    let q = seal-number S A Y (unsealed .last .0) (seal .result) (if1 .left) (if2 .left) (unsealed .ensures) (seal .ensures .0) in
-    let z = ne-eqb _ _ (if3 .taken) in (
-      c .refused3 .ensures ∙ disc-not C R S A Y _ q z,
-      (disc-not-ring C R S A Y _ q z, seal-buffer S A Y (unsealed .last .0) _ (if1 .left) (if2 .left) (unsealed .ensures) (seal .ensures .1)),
-    )
+    ap (unchanged R (seal .last .0)) (c .refused3 .ensures)
+    ∙ disc-not C R S A Y (if1 .left) (if2 .left) (unsealed .last .0) (seal .last .0) (seal .result) (unsealed .ensures) (seal .ensures .0) (seal .ensures .1) (if3 .taken)
 
 sector-requires : tie.Need-sector-requires
 sector-requires c κs = search needs
@@ -106,12 +98,9 @@ returns-4 c =
     let S = a .sector .now in
     let A = a .address in
     let Y = a .byte in
-    let q = seal-number S A Y (unsealed .last .0) (seal .result) (if1 .left) (if2 .left) (unsealed .ensures) (seal .ensures .0) in
-    let z = eq-eqb _ _ (if3 .left) in
-    let b = seal-buffer S A Y (unsealed .last .0) (seal .last .0) (if1 .left) (if2 .left) (unsealed .ensures) (seal .ensures .1) in (
-      c .told .ensures ∙ ap (λ (t : Told). of-told t) (sector3 .ensures .0 ∙ ap (calls.sector-told C R) b) ∙ disc-done C R S A Y _ q z,
-      (sector3 .ensures .1 ∙ ap (calls.sector-ring C R) b ∙ disc-done-ring C R S A Y _ q z, b),
-    )
+    ap (λ (r : Answer). record { answer = r; memory = sector3 .last .1 .0; sector = seal .last .0 }) (c .told .ensures)
+    ∙ ap (λ (l : Lent). record { answer = of-told (l .told); memory = l .ring; sector = seal .last .0 }) (sector3 .ensures)
+    ∙ disc-done C R S A Y (if1 .left) (if2 .left) (unsealed .last .0) (seal .last .0) (seal .result) (unsealed .ensures) (seal .ensures .0) (seal .ensures .1) (if3 .left)
 
 pub disc-spec : {M : Type 1} → statement M
 disc-spec =

@@ -1,16 +1,18 @@
 -- `script::lines::feed` meets its contract. The loop's invariant: the bench, the memory and the buffers stand for the progress of the lines so far
 -- (`Stands`), and `end` is the next line's end. Assumes nothing.
 use mathlib.Core.Logic.{inl, inr}
-use mathlib.Core.Path.{_≡_, refl, ap, _∙_}
+use mathlib.Core.Path.{_≡_, refl, _∙_}
 use Prim.Native.Nat.{_+_, _-_, _≤_, _<_}
 use native.Mathlib.Omega.{arith}
 use lib.ListN.{length}
 use borrow.Author.Tests.{leb-true, leb-false}
 use borrow.Rule.Slice.PartMut.{putMid}
 use Rattle.bytes.specs.Bytes.{indexOf, slice}
+use Rattle.laws.proofs.Ends.{put-length}
 use Rattle.laws.proofs.Parts.{mid-rest}
-use Rattle.script.specs.Feed.{Progress, begun}
-use Rattle.script.proofs.Feeding.{Stands, turned, settled, put-length, told-is, printed-out}
+use Rattle.syntax.specs.Print.{room}
+use Rattle.script.specs.Feed.{begun}
+use Rattle.script.proofs.Feeding.{Stands, turned, settled, left-as}
 use borrow.Author.Needs.{needs}
 use Rattle.script.proofs.lines.feed.Statement.{statement}
 use Rattle.script.proofs.lines.feed.Tie as tie
@@ -59,8 +61,8 @@ add-size c =
     let start = c .before .before .before .before .before .before .before .before .before .before .before .before .before .before .before .before .before .before .before .before .before in
     let l = c .before .before .before .before .before .before .before .before .before .before .before .before .before .before .before .loop in
     let r = c .before .before .before .before .before .before .before .before .run in
-    let hr = leb-true 160 (length (l .out) - l .size) (c .before .before .before .before .before .before .before .before .before .before .before .before .before .if1 .taken) in
-    let h : l .size + r .result .size ≤ length (start .args .out .now) = omega (arith, r .ensures .1 .1 .1 .1, hr, l .inv .7) in
+    let hr = leb-true room (length (l .out) - l .size) (c .before .before .before .before .before .before .before .before .before .before .before .before .before .if1 .taken) in
+    let h : l .size + r .result .size ≤ length (start .args .out .now) = omega (arith, r .ensures .1, hr, l .inv .7) in
     record { fits = omega (arith, h, start .good .1 .1 .1 .1 .0) }
 
 add-taken : tie.Need-add-taken Inv-loop μ-loop
@@ -83,14 +85,13 @@ loop-again c =
     let l = c .before .before .before .before .before .before .before .before .before .before .before .before .before .before .before .before .loop in
     let r = c .before .before .before .before .before .before .before .before .before .run in
     let o = r .last .1 .1 .1 .1 .0 in
-    let hr = leb-true 160 (length (l .out) - l .size) (c .before .before .before .before .before .before .before .before .before .before .before .before .before .before .if1 .taken) in
-    let hz : l .size + r .result .size ≤ length (l .out) = omega (arith, r .ensures .1 .1 .1 .1, hr) in
+    let hr = leb-true room (length (l .out) - l .size) (c .before .before .before .before .before .before .before .before .before .before .before .before .before .before .if1 .taken) in
+    let hz : l .size + r .result .size ≤ length (l .out) = omega (arith, r .ensures .1, hr) in
     let lo : length (putMid (l .size) (length (l .out) - l .size) (l .out) o) ≡ length (l .out) = put-length (l .out) o (l .size) (l .inv .4) (r .kept .1 .1 .1 .1 .0) in
     let he = c .before .before .before .before .before .before .before .before .before .before .before .before .before .before .before .loop-test .taken in
     let d = begun (a .start) (a .memory .now) (a .sector .now) in (
       turned (length (a .out .now)) d (a .text .now) (a .out .now) (l .bench) (l .memory) (l .sector) (l .out) (l .size) (l .taken) (l .end) (l .inv .0)
-          (l .inv .7) (l .inv .4) hr he (l .inv .1) (l .inv .3) _ _ (r .result) _ _ _ refl (mid-rest (l .size) (l .out)) (r .ensures .0) (r .ensures .1 .0)
-          (r .ensures .1 .1 .0) (r .ensures .1 .1 .1 .0),
+          (l .inv .7) (l .inv .4) hr he (l .inv .1) (l .inv .3) _ _ (r .result) _ _ _ refl (mid-rest (l .size) (l .out)) (r .ensures .0),
       omega (arith, c .find2 .ensures .0),
       c .find2 .ensures .1,
       c .find2 .ensures .0,
@@ -114,17 +115,11 @@ returns c =
     let a = c .before .before .before .before .before .before .before .before .args in
     let l = c .before .before .loop in
     let d = begun (a .start) (a .memory .now) (a .sector .now) in
-    let hr = leb-false 160 (length (l .out) - l .size) (c .if1 .left) in
-    let h : length (a .out .now) < l .size + 160 = omega (arith, hr, l .inv .7, l .inv .4) in
+    let hr = leb-false room (length (l .out) - l .size) (c .if1 .left) in
+    let h : length (a .out .now) < l .size + room = omega (arith, hr, l .inv .7, l .inv .4) in
     let e = settled (length (a .out .now)) d (a .text .now) (a .out .now) (l .bench) (l .memory) (l .sector) (l .out) (l .size) (l .taken) (l .inv .0) (l .inv .7) (l .inv .4) (inl h) in (
-      told-is (l .bench) (l .memory) (l .sector) (l .out) (a .out .now) (l .size) (l .taken) _ e (l .inv .4),
-      (
-        ap (λ (d : Progress). d .memory) e,
-        (
-          ap (λ (d : Progress). d .sector) e,
-          (printed-out (l .bench) (l .memory) (l .sector) (l .out) (a .out .now) (l .size) (l .taken) _ e (l .inv .4) (l .inv .0 .behind), (omega (arith, l .inv .1, l .inv .2), l .inv .4)),
-        ),
-      ),
+      left-as (l .bench) (l .memory) (l .sector) (l .out) (a .out .now) (l .size) (l .taken) _ e (l .inv .4) (l .inv .0 .behind),
+      (omega (arith, l .inv .1, l .inv .2), l .inv .4),
     )
 
 same-length-4 : tie.Need-same-length-4 Inv-loop μ-loop
@@ -143,14 +138,8 @@ returns-2 c =
     let d = begun (a .start) (a .memory .now) (a .sector .now) in
     let h : length (a .text .now) ≤ l .taken + indexOf 10 (slice (l .taken) (length (a .text .now)) (a .text .now)) = omega (arith, c .loop-test .left, l .inv .3) in
     let e = settled (length (a .out .now)) d (a .text .now) (a .out .now) (l .bench) (l .memory) (l .sector) (l .out) (l .size) (l .taken) (l .inv .0) (l .inv .7) (l .inv .4) (inr h) in (
-      told-is (l .bench) (l .memory) (l .sector) (l .out) (a .out .now) (l .size) (l .taken) _ e (l .inv .4),
-      (
-        ap (λ (d : Progress). d .memory) e,
-        (
-          ap (λ (d : Progress). d .sector) e,
-          (printed-out (l .bench) (l .memory) (l .sector) (l .out) (a .out .now) (l .size) (l .taken) _ e (l .inv .4) (l .inv .0 .behind), (omega (arith, l .inv .1, l .inv .2), l .inv .4)),
-        ),
-      ),
+      left-as (l .bench) (l .memory) (l .sector) (l .out) (a .out .now) (l .size) (l .taken) _ e (l .inv .4) (l .inv .0 .behind),
+      (omega (arith, l .inv .1, l .inv .2), l .inv .4),
     )
 
 pub feed-spec : {M : Type 1} → statement M

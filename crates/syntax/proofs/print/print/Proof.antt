@@ -1,7 +1,10 @@
 -- `syntax::print::print` meets its contract. Assumes nothing.
+use mathlib.Core.Path.{sym}
 use native.Mathlib.Omega.{arith}
-use Rattle.syntax.specs.Print.{printed}
+use lib.ListN.{take, drop}
 use Rattle.syntax.proofs.Written.{then, at-front}
+use Rattle.syntax.proofs.Rows.{texts-append}
+use Rattle.syntax.specs.Print.{rows, printed}
 use borrow.Author.Needs.{needs}
 use Rattle.syntax.proofs.print.print.Statement.{statement}
 use Rattle.syntax.proofs.print.print.Tie as tie
@@ -24,10 +27,10 @@ same-length c = search needs
 returns : tie.Need-returns
 unfolding printed
 returns c =
-    let call-text = c .before .before .before .before .before .before .before .before .before .before .before .call-text in
-    let chip-text = c .before .before .before .before .before .before .before .chip-text in
-    let text = c .before .before .text in
-    let w = at-front (omega arith) (then (then (call-text .ensures .0) (chip-text .ensures .0)) (text .ensures)) in
+    let call = c .before .before .before .before .before .before .before .before .before .before .before .call-text .ensures in
+    let chip = c .before .before .before .before .before .before .before .chip-text .ensures in
+    let halves = rw (sym (texts-append (take 3 rows) (drop 3 rows) (c .before .before .before .before .before .before .before .before .before .before .before .before .before .before .args .s))) at (then (call .0) (chip .0)) in
+    let w = at-front {l = c .before .before .before .before .before .before .before .before .before .before .before .before .before .before .args .out .now} (omega arith) (then halves (c .before .before .text .ensures)) in
     (w .0, (w .1, omega arith))
 
 pub print-spec : {M : Type 1} → statement M

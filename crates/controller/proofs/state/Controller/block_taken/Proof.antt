@@ -1,5 +1,5 @@
 -- The four counts taken down by `less` are the definition's.
-use Rattle.controller.specs.Fields.{_▹_, tcc≔, bufc≔, ttc≔, left≔, place≔}
+use Rattle.controller.specs.Fields.{_▹_, tcc≔, bufc≔, ttc≔, left≔, position≔}
 use borrow.Author.Needs.{needs}
 use Rattle.controller.proofs.state.Controller.block_taken.Statement.{statement}
 use Rattle.controller.proofs.state.Controller.block_taken.Tie as tie
@@ -20,7 +20,7 @@ returns : tie.Need-returns
 returns c =
     let s = c .before .before .before .before .before .before .before .before .before .args .self in
     λ i. s ▹ tcc≔ (c .before .before .before .before .before .before .before .before .less .ensures i) ▹ bufc≔ (c .before .before .before .before .before .before .before .less2 .ensures i) ▹ ttc≔ (c .before .before .before .before .before .before .less3 .ensures i)
-    ▹ left≔ (c .before .before .before .before .before .less4 .ensures i) ▹ place≔ 0
+    ▹ left≔ (c .before .before .before .before .before .less4 .ensures i) ▹ position≔ 0
 
 pub block-taken-spec : {M : Type 1} → statement M
 block-taken-spec =

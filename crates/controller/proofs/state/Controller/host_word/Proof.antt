@@ -29,8 +29,8 @@ add-if2 c = omega (arith, c .struct-known2 .given)
 cast-if2-2 : tie.Need-cast-if2-2
 cast-if2-2 c = omega (arith, c .struct-known3 .given)
 
-add-place : tie.Need-add-place
-add-place c = omega (arith, c .before .if2 .taken, c .before .before .struct-known3 .given)
+add-position : tie.Need-add-position
+add-position c = omega (arith, c .before .if2 .taken, c .before .before .struct-known3 .given)
 
 done-requires : tie.Need-done-requires
 done-requires c κs = search needs
@@ -76,7 +76,7 @@ host-word-spec =
     cast-if2
     add-if2
     cast-if2-2
-    add-place
+    add-position
     done-requires
     returns-2
     block-taken-requires

@@ -1,0 +1,2 @@
+-- Choices by the calls that are lent no memory.
+pub mod Choice

@@ -1,0 +1,2 @@
+-- The reply to a call.
+pub mod Reply

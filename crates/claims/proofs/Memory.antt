@@ -7,7 +7,7 @@ use Rattle.ring.specs.Represents.{Represents}
 use Rattle.ring.specs.declared.Place.{Place}
 use Rattle.outcomes.specs.Machine.{Call, plain, sector, look, word, Answer, answers}
 use Rattle.outcomes.specs.Row.{Row, Valid, row-step}
-use Rattle.chip.specs.Calls.{sector-told, word-told}
+use Rattle.chip.specs.Calls.{sector-told}
 use Rattle.chip.specs.Machine.{State, over, of-told, chip-answer, chip-step, the-chip}
 use Rattle.chip.specs.declared.Chip.{Chip}
 use Rattle.chip.specs.declared.Told.{Told}

@@ -1,6 +1,5 @@
 -- The claims of the chip: what is proved of any machine with demand 3, or of one that simulates the row machine, said of the chip. Assumes nothing.
 use Prim.Native.Nat.{ℕ}
-use Rattle.outcomes.specs.Row.{the-row}
 use Rattle.chip.specs.Machine.{the-chip}
 use Rattle.claims.specs.Cases.{CasesMet}
 use Rattle.claims.specs.Letter.{Accounted, Never-again}

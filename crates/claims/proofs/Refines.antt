@@ -2,21 +2,19 @@
 -- Assumes nothing.
 use Prim.Native.Nat.{ℕ, _+_, _*_, _≤_}
 use mathlib.Core.Path.{_≡_, refl, sym, ap, ap₂, subst, _∙_}
-use mathlib.Core.Bool.{Bool, true, false, _&&_, _||_, not}
+use mathlib.Core.Bool.{Bool, true, false, _&&_}
 use mathlib.Core.List.{List, []}
 use native.Mathlib.Omega.{arith}
 use lib.Dec.{eqb, leb}
-use lib.ListN.{length, take, drop, getD}
+use lib.ListN.{length, getD}
 use borrow.Author.Tests.{le-leb, eqb-true, eq-eqb}
 use Rattle.laws.specs.Bytes.{word-at}
 use Rattle.laws.specs.Choice.{if_then_else_}
 use Rattle.laws.proofs.Choice.{if-case, if-true, both-true}
 use Rattle.calls.specs.declared.Call.{Call as Plain}
 use Rattle.calls.specs.declared.Call.the-variants.{Write, Read, SetBlock, SetWindow, SetExpected, PacketByte, Reset, Command, PacketWord, Status, Srst}
-use Rattle.reply.specs.Reply as replies
 use Rattle.sector.specs.Receive.{received}
 use Rattle.controller.specs.Calls.{stepped}
-use Rattle.controller.specs.Decoder.{admission, counted}
 use Rattle.controller.specs.Host.{host-word}
 use Rattle.controller.specs.Read.{read}
 use Rattle.controller.specs.State.{initial}
@@ -26,17 +24,17 @@ use Rattle.controller.specs.declared.step.Event.{Event}
 use Rattle.controller.specs.declared.step.RingFacts.{RingFacts}
 use Rattle.controller.specs.declared.step.Step.{Step}
 use Rattle.reply.specs.declared.Reply.{Reply}
-use Rattle.ring.specs.Memory.{base, stored}
+use Rattle.ring.specs.Memory.{stored}
 use Rattle.ring.specs.Place as ring
-use Rattle.ring.specs.Place.{full, place-step, ring-facts}
+use Rattle.ring.specs.Place.{place-step, ring-facts}
 use Rattle.ring.specs.Represents.{Represents}
 use Rattle.ring.specs.declared.Place.{Place}
 use Rattle.ring.proofs.Represents.{represents-opened, represents-full}
 use Rattle.outcomes.specs.Invariant.{moved}
-use Rattle.outcomes.specs.Machine.{Call, plain, sector, look, word, Answer, replied, handed, refused, seen, number}
-use Rattle.outcomes.specs.Row.{Row, Valid, row-facts, plain-step, word-step, sector-number, sector-step, grown, left-by, answered, word-answered, looked, row-answer, row-step, the-row}
+use Rattle.outcomes.specs.Machine.{Call, plain, sector, look, word, replied, handed, refused, seen, number}
+use Rattle.outcomes.specs.Row.{Row, Valid, plain-step, word-step, sector-number, sector-step, grown, left-by, answered, looked, row-answer, row-step, the-row}
 use Rattle.outcomes.proofs.Calls.{word-running}
-use Rattle.outcomes.proofs.Rows.{concluded-reply, Kept, kept, plain-ended, word-ended, taken, sector-stored, valid-opened}
+use Rattle.outcomes.proofs.Rows.{concluded-reply, kept, plain-ended, word-ended, taken, sector-stored, valid-opened}
 use Rattle.chip.specs.Chip as chip
 use Rattle.chip.specs.Chip.{ring-fits, finished}
 use Rattle.chip.specs.Calls as calls
@@ -45,11 +43,10 @@ use Rattle.chip.specs.Machine.{State, over, of-told, of-word, chip-answer, chip
 use Rattle.chip.specs.Sound.{sound}
 use Rattle.chip.specs.declared.Chip.{Chip}
 use Rattle.chip.specs.declared.Told.{Told}
-use Rattle.chip.specs.declared.Word.{Word}
 use Rattle.chip.specs.declared.Word.the-variants.{Handed, Refused}
 use Rattle.chip.specs.declared.WordTold.{WordTold}
-use Rattle.chip.proofs.Sounds.{SoundFacts, facts-sound}
-use Rattle.claims.specs.Demand3.{hidden, without-result, masked}
+use Rattle.chip.proofs.Sounds.{facts-sound}
+use Rattle.claims.specs.Demand3.{masked}
 use Rattle.claims.specs.Refinement.{Refines, Simulation}
 use Rattle.claims.proofs.Represented.{step-n, represents-outcome, represents-stored, represented-word, represented-look}
 

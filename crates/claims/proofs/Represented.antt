@@ -1,23 +1,20 @@
 -- A ring goes on representing the row, by the outcome of a call; and what is read of its oldest block is of the row's first sector. Assumes nothing.
-use Prim.Native.Nat.{ℕ, _+_, _-_, _*_, _<_, _≤_}
-use mathlib.Core.Path.{_≡_, refl, sym, ap, subst, _∙_}
+use Prim.Native.Nat.{ℕ, _+_, _-_, _*_, _<_}
+use mathlib.Core.Path.{_≡_, refl, ap, _∙_}
 use mathlib.Core.Bool.{Bool, true, false, _&&_, not}
 use mathlib.Core.List.{List, [], _∷_, _++_}
-use mathlib.Core.Logic.{_⊎_, ⊎-elim}
 use native.Mathlib.Nat.{add-assoc}
 use native.Mathlib.Omega.{arith}
-use lib.Dec.{eqb, leb, ltb}
-use lib.ListN.{length, take, drop, getD}
-use borrow.Author.Tests.{leb-true, eqb-false, eq-eqb, not-true}
+use lib.Dec.{eqb}
+use lib.ListN.{take, drop, getD}
+use borrow.Author.Tests.{eqb-false, not-true}
 use Rattle.laws.specs.Bytes.{word-at}
 use Rattle.laws.specs.Choice.{if_then_else_}
-use Rattle.laws.specs.Numbers.{weight}
-use Rattle.laws.proofs.Choice.{if-case, if-true, left-true, right-true, both-true}
-use Rattle.laws.proofs.Tests.{and3}
+use Rattle.laws.proofs.Choice.{left-true, right-true, then-same}
+use Rattle.laws.proofs.Tests.{weightless}
 use Rattle.sector.specs.Judge.{good}
-use Rattle.sector.specs.Receive.{Received, received}
+use Rattle.sector.specs.Receive.{received}
 use Rattle.sector.proofs.Received.{length-received}
-use Rattle.controller.specs.Named.{window-fits}
 use Rattle.controller.specs.declared.state.Controller.{Controller}
 use Rattle.controller.specs.declared.step.Event.{Event}
 use Rattle.controller.specs.declared.step.Event.the-variants.{Stay, Store, Advance, Rewind, Move, Clear}
@@ -27,7 +24,7 @@ use Rattle.ring.specs.Place.{place-step}
 use Rattle.ring.specs.Represents.{Represents}
 use Rattle.ring.specs.declared.Place.{Place}
 use Rattle.ring.proofs.Represents.{represents-advance, represents-rewind, represents-move, represents-clear, represents-store-good, represents-store-bad, represents-word, represents-look}
-use Rattle.outcomes.specs.Invariant.{Consistent, Moves, moved, Lands}
+use Rattle.outcomes.specs.Invariant.{Moves, moved, Lands}
 use Rattle.outcomes.specs.Machine.{Call}
 use Rattle.outcomes.specs.Row.{Row, Valid, looked, grown, sector-step}
 use Rattle.outcomes.proofs.Consistent.{window-end}
@@ -80,7 +77,7 @@ module _ (x : List ℕ) (s : Row) (h : Valid s) (t : Taken x s) (p : Place) (n-i
     -- nothing is held, so that every filled block is good
     all-good : s .controller .counts .tcc ≡ s .controller .counts .bufc
     all-good =
-        let w : weight (s .controller .counts .held) 1 ≡ 0 = rw (t .admitted .unheld) refl in
+        let w = weightless (s .controller .counts .held) 1 (t .admitted .unheld) in
         let b = h .invariant .consistent .buffered in
         omega arith
 
@@ -105,10 +102,6 @@ module _ (x : List ℕ) (s : Row) (h : Valid s) (t : Taken x s) (p : Place) (n-i
             (stored ring (p .b) (received (s .controller .expected) x .bytes)) (if e then s .row ++ received (s .controller .expected) x .bytes ∷ [] else s .row)
         by true g b = g
         by false g b = b
-
-same-else : (b : Bool) (x y z : List ℕ) → (b ≡ true → x ≡ y) → (if b then x else z) ≡ (if b then y else z)
-same-else true x y z h = h refl
-same-else false x y z h = refl
 
 module _ (s : Row) (h : Valid s) (p : Place) (ring : List ℕ) (r : Represents p (s .controller .counts .tcc) (s .controller .counts .bufc) ring (s .row)) where
   -- the word of a transfer that runs
@@ -135,7 +128,7 @@ module _ (s : Row) (h : Valid s) (p : Place) (ring : List ℕ) (r : Represents p
       let o = s .controller .window .offset in
       let w = s .controller .window .words in
       let c = s .controller .counts .tcc in
-      same-else (not (eqb c 0) && not (eqb w 0)) (take (2 * w) (drop (base (p .t) + o) ring)) (take (2 * w) (drop o (getD (s .row) 0 []))) []
+      then-same (not (eqb c 0) && not (eqb w 0)) (take (2 * w) (drop (base (p .t) + o) ring)) (take (2 * w) (drop o (getD (s .row) 0 []))) []
       (λ e.
       let t = eqb-false c 0 (not-true _ (left-true (not (eqb c 0)) (not (eqb w 0)) e)) in
       let f = eqb-false w 0 (not-true _ (right-true (not (eqb c 0)) (not (eqb w 0)) e)) in

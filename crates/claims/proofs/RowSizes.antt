@@ -2,21 +2,20 @@
 -- alike by both, and leaves them so. Assumes nothing.
 use Prim.Native.Nat.{ℕ, _+_, _<_, _≤_}
 use mathlib.Core.Path.{_≡_, refl, sym, ap, ap₂, subst, _∙_}
-use mathlib.Core.Bool.{Bool, true, false, _&&_, _||_, not, true≢false}
+use mathlib.Core.Bool.{Bool, true, false, _&&_, not, true≢false}
 use mathlib.Core.List.{List, [], _∷_}
 use native.Mathlib.Omega.{arith}
 use lib.Dec.{eqb, leb, ltb}
 use lib.ListN.{length}
 use borrow.Author.Tests.{leb-false, ltb-false, le-ltb, lt-leb, eqb-true, eqb-false, ne-eqb}
 use Rattle.laws.specs.Choice.{if_then_else_}
-use Rattle.laws.proofs.Choice.{if-case}
 use Rattle.calls.specs.declared.Call.{Call as Plain}
 use Rattle.calls.specs.declared.Call.the-variants.{Write, Read, SetBlock, SetWindow, SetExpected, PacketByte, Reset, Command, PacketWord, Status, Srst}
 use Rattle.controller.specs.Calls.{stepped}
 use Rattle.controller.specs.Decoder.{admission}
 use Rattle.controller.specs.Named.{set-block}
 use Rattle.controller.specs.Read.{read}
-use Rattle.controller.specs.Step.{refused, done}
+use Rattle.controller.specs.Step.{refused}
 use Rattle.controller.specs.Transfer.{concluded}
 use Rattle.controller.specs.Write.{write-buflim, write}
 use Rattle.controller.specs.declared.state.Controller.{Controller}
@@ -25,9 +24,9 @@ use Rattle.controller.specs.declared.step.Step.{Step}
 use Rattle.reply.specs.declared.Reply.{Reply}
 use Rattle.outcomes.specs.Book.{limited}
 use Rattle.outcomes.specs.Invariant.{moved}
-use Rattle.outcomes.specs.Machine.{Call, plain, sector, look, word, Answer, replied, number}
-use Rattle.outcomes.specs.Row.{Row, Valid, row-facts, plain-step, sector-number, sector-step, grown, answered, row-answer, row-step, the-row}
-use Rattle.outcomes.proofs.Rows.{concluded-reply, Kept, kept, taken, sector-stored}
+use Rattle.outcomes.specs.Machine.{Call, plain, sector, look, word, replied, number}
+use Rattle.outcomes.specs.Row.{Row, Valid, row-facts, sector-number, sector-step, grown, answered, row-answer, row-step, the-row}
+use Rattle.outcomes.proofs.Rows.{concluded-reply, kept, taken, sector-stored}
 use Rattle.claims.specs.Demand3.{stops, unless, masked, Agree}
 
 -- a first test that refuses with 3, told apart by the two sizes only where it does

@@ -1,20 +1,17 @@
 -- The row machine hands over the words that the book predicts, over any list of calls. Assumes nothing.
-use Prim.Native.Nat.{ℕ, _+_, _*_, _≤_}
 use mathlib.Core.Path.{_≡_, refl, sym, ap, subst, _∙_}
-use mathlib.Core.Bool.{Bool, true, false, not}
+use mathlib.Core.Bool.{true}
 use mathlib.Core.List.{List, [], _∷_}
 use native.Mathlib.Omega.{arith}
 use lib.Dec.{eqb}
-use lib.ListN.{length, getD}
+use lib.ListN.{length}
 use borrow.Author.Tests.{eqb-true, eqb-false}
 use Rattle.laws.proofs.Choice.{if-case}
 use Rattle.controller.specs.Host.{host-word}
-use Rattle.controller.specs.declared.state.Controller.{Controller}
-use Rattle.controller.specs.declared.step.Step.{Step}
 use Rattle.reply.specs.declared.Reply.{Reply}
 use Rattle.outcomes.specs.Book.{Book, feed}
-use Rattle.outcomes.specs.Machine.{Call, plain, sector, look, word, Answer, replied, handed, refused, number}
-use Rattle.outcomes.specs.Row.{Row, Valid, shown, word-step, sector-number, sector-step, answered, row-answer, row-step, the-row}
+use Rattle.outcomes.specs.Machine.{Call, plain, sector, look, word, Answer, number}
+use Rattle.outcomes.specs.Row.{Row, Valid, shown, word-step, sector-number, row-answer, row-step, the-row}
 use Rattle.outcomes.proofs.Calls.{word-running}
 use Rattle.outcomes.proofs.Rows.{concluded-reply, kept}
 use Rattle.claims.specs.Demand3.{Wordless, Right, Faithful}

@@ -1,13 +1,12 @@
 -- Demand 3 goes over from a machine to one that simulates it. Assumes nothing.
-use Prim.Native.Nat.{ℕ, _*_, _≤_}
+use Prim.Native.Nat.{ℕ}
 use mathlib.Core.Path.{_≡_, refl, sym, ap, subst, _∙_}
 use mathlib.Core.Bool.{Bool, true, false}
 use mathlib.Core.List.{List, [], _∷_}
 use native.Mathlib.Omega.{arith}
-use lib.ListN.{length}
 use Rattle.laws.specs.Choice.{if_then_else_}
 use Rattle.laws.proofs.Choice.{if-case}
-use Rattle.outcomes.specs.Book.{Book, feed, limited}
+use Rattle.outcomes.specs.Book.{Book, feed}
 use Rattle.outcomes.specs.Machine.{Call, plain, sector, look, word, Answer, replied, handed, refused, seen, number, Machine}
 use Rattle.claims.specs.Demand3.{hidden, without-result, masked, stops, unless, Agree, Wordless, Right, Faithful, Demand3}
 use Rattle.claims.specs.Refinement.{Simulation}

@@ -1,5 +1,4 @@
 -- One dispatch for the calls that touch no memory: each is one definition's. Assumes nothing.
-use Prim.Native.Nat.{ℕ}
 use Rattle.calls.specs.declared.Call.{Call}
 use Rattle.calls.specs.declared.Call.the-variants.{Write, Read, SetBlock, SetWindow, SetExpected, PacketByte, Reset, Command, PacketWord, Status, Srst}
 use Rattle.controller.specs.Host.{host-command, packet-word, host-status, host-srst}

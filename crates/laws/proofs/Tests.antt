@@ -2,7 +2,9 @@
 use mathlib.Core.Path.{_≡_, refl, sym, _∙_}
 use mathlib.Core.Bool.{Bool, true, false, _&&_, _||_, not, false≢true}
 use mathlib.Core.Logic.{_⊎_, inl, inr}
+use Prim.Native.Nat.{ℕ}
 use Rattle.laws.specs.Choice.{if_then_else_}
+use Rattle.laws.specs.Numbers.{weight}
 use Rattle.laws.proofs.Choice.{left-true, right-true}
 
 pub clash : {P : Type 0} (b : Bool) → b ≡ false → b ≡ true → P
@@ -45,6 +47,9 @@ pub or-false : (a b : Bool) → (a || b) ≡ false → (a ≡ false) × (b ≡ f
 or-false true b h = absurd (false≢true (sym h))
 or-false false b h = (refl, h)
 
+pub both-false : (a b : Bool) → a ≡ false → b ≡ false → (a || b) ≡ false
+both-false a b p q = simp (p, q)
+
 -- `not a || b` says that b holds when a does
 pub when-true : (a b : Bool) → (not a || b) ≡ true → a ≡ true → b ≡ true
 when-true true b h e = h
@@ -58,3 +63,7 @@ true-when false b h = refl
 pub if-not : {A : Type 0} (P : A → Type 0) (b : Bool) (x y : A) → (b ≡ false → P x) → (b ≡ true → P y) → P (if not b then x else y)
 if-not P true x y f g = g refl
 if-not P false x y f g = f refl
+
+-- a switch that is off weighs nothing
+pub weightless : (b : Bool) (w : ℕ) → b ≡ false → weight b w ≡ 0
+weightless b w h = simp h

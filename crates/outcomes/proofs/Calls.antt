@@ -11,14 +11,14 @@ use lib.ListN.{length, set, length-set, drop, drop-of-length-le}
 use borrow.Author.Tests.{leb-false, ltb-true, ltb-false, eqb-true, not-false, eq-eqb, ne-eqb}
 use Rattle.laws.specs.Numbers.{weight}
 use Rattle.laws.proofs.Choice.{if-case, if-true, if-false}
-use Rattle.laws.proofs.Tests.{clash, contra, unless, or-false, if-not}
+use Rattle.laws.proofs.Tests.{both-false, clash, contra, unless, or-false, if-not, weightless}
 use Rattle.calls.specs.declared.Call.{Call as Plain}
 use Rattle.calls.specs.declared.Call.the-variants.{Write, Read, SetBlock, SetWindow, SetExpected, PacketByte, Reset, Command, PacketWord, Status, Srst}
 use Rattle.sector.specs.Address.{valid}
 use Rattle.sector.specs.declared.Address.{Address}
 use Rattle.controller.specs.Calls.{stepped}
-use Rattle.controller.specs.Fields.{_▹_, atcmd≔, hirq≔, packet≔, running≔, position≔, received≔, receiving≔, fpkt≔, window≔}
-use Rattle.controller.specs.Host.{data-ended, ended, block-taken, host-word, packet-begun, host-command, packet-more, packet-word, host-status, host-srst}
+use Rattle.controller.specs.Fields.{_▹_, atcmd≔, hirq≔, packet≔, running≔, position≔, received≔, receiving≔, fpkt≔}
+use Rattle.controller.specs.Host.{data-ended, ended, block-taken, host-word, packet-begun, host-command, packet-more, packet-word, host-srst}
 use Rattle.controller.specs.Named.{set-block, window-fits, set-window, set-expected, packet-byte, reset}
 use Rattle.controller.specs.Read.{read}
 use Rattle.controller.specs.State.{initial}
@@ -28,9 +28,9 @@ use Rattle.controller.specs.declared.state.Controller.{Controller}
 use Rattle.controller.specs.declared.step.Event.the-variants.{Stay, Advance, Move, Clear}
 use Rattle.controller.specs.declared.step.RingFacts.{RingFacts}
 use Rattle.controller.specs.declared.step.Step.{Step}
-use Rattle.outcomes.specs.Book.{Book, book-of, fed, row≔, k≔}
+use Rattle.outcomes.specs.Book.{book-of, fed, row≔, k≔}
 use Rattle.outcomes.specs.Invariant.{Running, Consistent}
-use Rattle.outcomes.specs.Machine.{Call, plain, word}
+use Rattle.outcomes.specs.Machine.{plain, word}
 use Rattle.outcomes.proofs.Consistent.{statusless, consistent-quiet, consistent-decoder, consistent-idle, consistent-packet, consistent-initial}
 use Rattle.outcomes.proofs.Outcome.{Outcome, done, numbered, Passed, by-tests, no, stays, free, quiet, moves-blocks}
 use Rattle.outcomes.proofs.Writes.{written}
@@ -54,9 +54,6 @@ ended-counts c = ap (λ (x : Controller). x .counts) (ended-same c)
 
 ended-buffering : (c : Controller) → ended c .buffering ≡ c .buffering
 ended-buffering c = ap (λ (x : Controller). x .buffering) (ended-same c)
-
-both-false : (a b : Bool) → a ≡ false → b ≡ false → (a || b) ≡ false
-both-false a b p q = simp (p, q)
 
 no-row : (row : List (List ℕ)) → length row ≡ 0 → row ≡ []
 no-row row e = drop-of-length-le row (le-of-eq e)
@@ -234,7 +231,7 @@ module _ (n : ℕ) (c : Controller) (h : Consistent c) (limit : c .buffering .bu
       tested (SetBlock t) ((leb n t, 3) ∷ (c .transfer .running, 4) ∷ (c .buffering .decen || not (eqb (c .counts .tcc) 0), 5) ∷ []) refl _ λ below _ e.
       let f = or-false (c .buffering .decen) (not (eqb (c .counts .tcc) 0)) e in
       let tcc : c .counts .tcc ≡ 0 = eqb-true _ _ (not-false _ (f .1)) in
-      let w : weight (c .counts .held) 1 ≡ 0 = rw (contra (c .counts .held) (c .buffering .decen) (h .held) (f .0)) refl in
+      let w = weightless (c .counts .held) 1 (contra (c .counts .held) (c .buffering .decen) (h .held) (f .0)) in
       let b = h .buffered in
       let bufc : c .counts .bufc ≡ 0 = omega arith in
       moves-blocks n c h limit _ c (Move t) h (tcc, bufc, tcc, bufc) (λ row size. ap (book-of c) (sym (no-row row (size ∙ tcc)))) refl refl (leb-false _ _ below)

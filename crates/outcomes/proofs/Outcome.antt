@@ -1,6 +1,6 @@
 -- The outcome of a call of the controller: refused, and nothing changed; or done, with all that the crates above have to know. Assumes nothing.
 use Prim.Native.Nat.{ℕ, _+_, _-_, _≤_}
-use mathlib.Core.Path.{_≡_, refl, sym, ap, subst, _∙_}
+use mathlib.Core.Path.{_≡_, sym, ap, subst, _∙_}
 use mathlib.Core.Bool.{Bool, true, false, _&&_}
 use mathlib.Core.List.{List, [], _∷_}
 use native.Mathlib.Omega.{arith}
@@ -16,11 +16,11 @@ use Rattle.controller.specs.declared.state.Counts.{Counts}
 use Rattle.controller.specs.declared.step.Event.{Event}
 use Rattle.controller.specs.declared.step.Event.the-variants.{Stay, Store, Advance, Rewind, Move, Clear}
 use Rattle.controller.specs.declared.step.Step.{Step}
-use Rattle.outcomes.specs.Book.{Book, book-of, fed, limited}
+use Rattle.outcomes.specs.Book.{book-of, fed, limited}
 use Rattle.outcomes.specs.Invariant.{Consistent, Invariant, Moves, moved, Lands}
 use Rattle.outcomes.specs.Machine.{Call}
 use Rattle.outcomes.proofs.Consistent.{relevant, consistent-like, statusless, consistent-quiet}
-use Rattle.outcomes.proofs.Starts.{unstarted, settled-same, settled-book, invariant-settled}
+use Rattle.outcomes.proofs.Starts.{settled-same, settled-book, invariant-settled}
 
 -- what an accepted call on c, in a ring of n blocks, with the event e, leaves in d
 pub record Done (n : ℕ) (call : Call) (e : Event) (c d : Controller) : Type 0 where

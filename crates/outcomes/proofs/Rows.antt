@@ -1,39 +1,34 @@
 -- Every call keeps a row valid, and moves the book that the row shows as the book itself goes. Assumes nothing.
 use Prim.Native.Nat.{ℕ, _+_, _-_, _<_, _≤_}
-use mathlib.Core.Path.{_≡_, refl, sym, ap, subst, _∙_}
-use mathlib.Core.Bool.{Bool, true, false, _&&_, not}
+use mathlib.Core.Path.{_≡_, refl, sym, ap, _∙_}
+use mathlib.Core.Bool.{Bool, true, false, _&&_}
 use mathlib.Core.List.{List, [], _∷_, _++_}
 use native.Mathlib.Omega.{arith}
 use lib.Dec.{eqb, leb}
-use lib.ListN.{length, take, drop, length-append, length-drop}
+use lib.ListN.{length, length-append, length-drop}
 use lib.Seq.{length-take-le}
-use borrow.Author.Tests.{leb-false, eqb-true, eqb-false, ne-eqb, not-false}
+use borrow.Author.Tests.{leb-false, eqb-true, eqb-false, ne-eqb}
 use Rattle.laws.specs.Choice.{if_then_else_}
-use Rattle.laws.specs.Numbers.{weight}
-use Rattle.laws.proofs.Choice.{if-case, if-true, if-false, right-false}
+use Rattle.laws.proofs.Choice.{if-case, if-false, right-false}
 use Rattle.laws.proofs.Tests.{if-not}
 use Rattle.calls.specs.declared.Call.{Call as Plain}
 use Rattle.calls.specs.declared.Call.the-variants.{Write, Read, SetBlock, SetWindow, SetExpected, PacketByte, Reset, Command, PacketWord, Status, Srst}
 use Rattle.sector.specs.Judge.{good}
 use Rattle.sector.specs.Receive.{received}
 use Rattle.controller.specs.Bits.{bit}
-use Rattle.controller.specs.Calls.{stepped}
-use Rattle.controller.specs.Decoder.{at-stop, admission, counted}
-use Rattle.controller.specs.Host.{host-word}
+use Rattle.controller.specs.Decoder.{admission}
 use Rattle.controller.specs.State.{initial}
-use Rattle.controller.specs.Step.{refused, replied as replied-step}
-use Rattle.controller.specs.Transfer.{settled, concluded}
+use Rattle.controller.specs.Transfer.{concluded}
 use Rattle.controller.specs.declared.state.Controller.{Controller}
 use Rattle.controller.specs.declared.step.Event.{Event}
 use Rattle.controller.specs.declared.step.Event.the-variants.{Stay, Store, Advance, Rewind, Move, Clear}
 use Rattle.controller.specs.declared.step.Step.{Step}
-use Rattle.reply.specs.declared.Reply.{Reply}
-use Rattle.outcomes.specs.Book.{Book, book-of, fed, feed, limited}
+use Rattle.outcomes.specs.Book.{Book, fed, feed, limited}
 use Rattle.outcomes.specs.Invariant.{Consistent, Invariant, Moves, moved, Lands}
 use Rattle.outcomes.specs.Machine.{Call, plain, sector, look, word, Answer, replied, number}
-use Rattle.outcomes.specs.Row.{Row, Valid, shown, row-facts, plain-step, word-step, sector-number, sector-step, grown, left-by, answered, word-answered, row-answer, row-step, the-row}
+use Rattle.outcomes.specs.Row.{Row, Valid, shown, plain-step, word-step, sector-number, sector-step, grown, left-by, answered, word-answered, row-answer, row-step}
 use Rattle.outcomes.proofs.Calls.{host-words, outcome}
-use Rattle.outcomes.proofs.Outcome.{Done, Outcome, refusal, done, Ended, ended}
+use Rattle.outcomes.proofs.Outcome.{Outcome, refusal, done, Ended, ended}
 use Rattle.outcomes.proofs.Starts.{invariant-initial}
 use Rattle.outcomes.proofs.Stored.{Admitted, admitted, Stored, stored}
 

@@ -1,14 +1,14 @@
 -- A start keeps a controller consistent, and after it none is due; what a start leaves alone. Assumes nothing.
 use Prim.Native.Nat.{ℕ, _+_, _-_, _*_, _/_, _%_, _<_, _≤_, min}
-use mathlib.Core.Path.{_≡_, refl, sym, ap, subst, _∙_}
-use mathlib.Core.Bool.{true, false, _&&_, _||_, not}
+use mathlib.Core.Path.{_≡_, refl, sym, ap, _∙_}
+use mathlib.Core.Bool.{true, false, _&&_, not}
 use mathlib.Core.List.{List}
 use mathlib.Core.Logic.{_⊎_, inl, inr}
 use native.Mathlib.Omega.{arith}
 use lib.Dec.{eqb, ltb}
 use borrow.Author.Tests.{ltb-false, eqb-true, eqb-false, not-true}
 use Rattle.laws.specs.Choice.{if_then_else_}
-use Rattle.laws.proofs.Choice.{if-case, if-false, right-true, right-false}
+use Rattle.laws.proofs.Choice.{if-case, if-false, right-false}
 use Rattle.laws.proofs.Tests.{clash, and3, and4, or-false, if-not}
 use Rattle.controller.specs.Fields.{_▹_, mbc≔, atint≔, atblo≔, atbhi≔, drq≔, bsy≔, hirq≔, transfer≔}
 use Rattle.controller.specs.State.{initial}

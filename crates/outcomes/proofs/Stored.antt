@@ -1,17 +1,16 @@
 -- The outcome of a sector that is admitted: it is counted, good or bad. Assumes nothing.
 use Prim.Native.Nat.{ℕ, _+_}
 use mathlib.Core.Path.{_≡_, refl, ap, sym, subst, _∙_}
-use mathlib.Core.Bool.{Bool, true, false, not}
+use mathlib.Core.Bool.{Bool, true, false}
 use mathlib.Core.List.{List, [], _∷_, _++_}
 use native.Mathlib.Omega.{arith}
 use lib.Dec.{eqb}
 use Rattle.laws.specs.Choice.{if_then_else_}
-use Rattle.laws.specs.Numbers.{weight}
 use Rattle.laws.proofs.Choice.{if-case, if-true, if-false}
-use Rattle.laws.proofs.Tests.{if-not}
+use Rattle.laws.proofs.Tests.{if-not, weightless}
 use Rattle.sector.specs.Address.{next}
 use Rattle.sector.specs.Judge.{good}
-use Rattle.sector.specs.Receive.{Received, received}
+use Rattle.sector.specs.Receive.{received}
 use Rattle.sector.specs.declared.Judgement.{Judgement}
 use Rattle.sector.proofs.Claims.{next-holds}
 use Rattle.controller.specs.Decoder.{at-stop, admission, counted}
@@ -19,7 +18,7 @@ use Rattle.controller.specs.Transfer.{concluded, settled}
 use Rattle.controller.specs.declared.state.Controller.{Controller}
 use Rattle.controller.specs.declared.step.Event.the-variants.{Store}
 use Rattle.controller.specs.declared.step.Step.{Step}
-use Rattle.outcomes.specs.Book.{Book, book-of, takes, joined, fed}
+use Rattle.outcomes.specs.Book.{book-of, takes, joined, fed}
 use Rattle.outcomes.specs.Invariant.{Consistent, Invariant}
 use Rattle.outcomes.specs.Machine.{sector}
 use Rattle.outcomes.specs.Row.{grown}
@@ -64,13 +63,10 @@ module _ (c : Controller) (h : Consistent c) (full : Bool) (a : Admitted c full)
     shows : (row : List (List ℕ)) → book-of (s .controller) (grown c x row) ≡ fed (sector x) (book-of c row)
     buffering : s .controller .buffering ≡ c .buffering
 
-  weightless : weight (c .counts .held) 1 ≡ 0
-  weightless = rw (a .unheld) refl
-
   counts : Counted (counted c j)
   unfolding counted takes
   counts =
-      let w = weightless in
+      let w = weightless (c .counts .held) 1 (a .unheld) in
       let b = h .buffered in
       if-case Counted (good j) _ _
       (λ fine. record {

@@ -1,17 +1,16 @@
 -- The outcome of a register's write, register by register. Assumes nothing.
 use Prim.Native.Nat.{ℕ, _+_, _-_, _%_, _≤_}
-use mathlib.Core.Path.{_≡_, refl, sym, ap, _∙_}
+use mathlib.Core.Path.{_≡_, refl, sym, ap}
 use mathlib.Core.Bool.{Bool, true, false, _&&_, _||_, not, true≢false, false≢true}
 use mathlib.Core.List.{List, [], _∷_}
 use native.Mathlib.Nat.{le-of-eq}
 use native.Mathlib.Omega.{arith}
 use lib.Dec.{eqb, ltb}
-use lib.ListN.{length, drop}
+use lib.ListN.{drop}
 use lib.Seq.{take-all}
 use borrow.Author.Tests.{ltb-false, eqb-true, not-false}
-use Rattle.laws.specs.Numbers.{weight}
 use Rattle.laws.proofs.Choice.{if-case, left-true, right-true}
-use Rattle.laws.proofs.Tests.{clash, contra, if-not}
+use Rattle.laws.proofs.Tests.{clash, contra, if-not, weightless}
 use Rattle.calls.specs.declared.Call.the-variants.{Write}
 use Rattle.controller.specs.Bits.{bit, only, differs}
 use Rattle.controller.specs.Fields.{_▹_, task≔}
@@ -20,7 +19,7 @@ use Rattle.controller.specs.Transfer.{engaged, start-switches, blocks-lacking, 
 use Rattle.controller.specs.Write.{write-tack, decoder-off, write-ctrl0, write-mbtc0, write-astrg, write-asctrl, with-task, write-task, write-atsta, write-apksta, write-ascsta, write-bicctl, write-buflim, acctl-of, write-acctl, write-tcc, write-skipc, write-ttc, write}
 use Rattle.controller.specs.declared.state.Controller.{Controller}
 use Rattle.controller.specs.declared.step.Step.{Step}
-use Rattle.controller.specs.declared.step.Event.the-variants.{Stay, Advance, Rewind}
+use Rattle.controller.specs.declared.step.Event.the-variants.{Advance, Rewind}
 use Rattle.outcomes.specs.Book.{Book, book-of, fed, limited}
 use Rattle.outcomes.specs.Invariant.{Consistent}
 use Rattle.outcomes.specs.Machine.{plain}
@@ -34,9 +33,6 @@ same-switch d true t e p q = refl
 same-switch true false true e p q = absurd (true≢false e)
 same-switch true false false e p q = absurd (false≢true q)
 same-switch false false t e p q = absurd (false≢true p)
-
-weightless : (b : Bool) → b ≡ false → weight b 1 ≡ 0
-weightless b h = simp h
 
 module _ (n : ℕ) (c : Controller) (h : Consistent c) (limit : c .buffering .buflim + 2 ≤ n) (v : ℕ) where
   abbrev By : ℕ → Step → Type 0
@@ -165,7 +161,7 @@ module _ (n : ℕ) (c : Controller) (h : Consistent c) (limit : c .buffering .bu
   unfolding write-tcc
   lowered =
       tested 0x9D ((ltb 255 v, 3) ∷ (c .transfer .running, 4) ∷ (c .buffering .decen, 5) ∷ (ltb (c .counts .tcc) v, 6) ∷ []) refl _ λ _ off low e.
-      let w = weightless (c .counts .held) (contra (c .counts .held) (c .buffering .decen) (h .held) low) in
+      let w = weightless (c .counts .held) 1 (contra (c .counts .held) (c .buffering .decen) (h .held) low) in
       moves-blocks n c h limit _ _ (Rewind v)
       (consistent-idle c (record { tcc = v; bufc = v; ttc = c .counts .ttc; held = c .counts .held }) (c .acctl) (c .mbc) (c .window) off
       (omega arith) (h .held) (h .ttc) (h .uncached) (h .atlim) (h .decen) (h .mbc) (h .window) h)

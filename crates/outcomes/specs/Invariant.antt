@@ -1,7 +1,7 @@
 -- What holds of every controller that is reached from an opening, between two calls, and what a call makes of one. Assumes nothing.
 use Prim.Native.Nat.{ℕ, _+_, _-_, _<_, _≤_}
 use mathlib.Core.Path.{_≡_}
-use mathlib.Core.Bool.{Bool, true, false}
+use mathlib.Core.Bool.{true, false}
 use mathlib.Core.List.{List, []}
 use mathlib.Core.Logic.{_⊎_}
 use lib.ListN.{length, take, drop}

@@ -8,6 +8,7 @@ pub mod Refines
 pub mod Demand3
 pub mod Counted
 pub mod Memory
+pub mod Shown
 pub mod Letter
 pub mod Cases
 pub mod Runs

@@ -9,6 +9,8 @@ pub mod Demand3
 pub mod Counted
 pub mod Memory
 pub mod Shown
+pub mod Renewed
+pub mod Sentence
 pub mod Letter
 pub mod Cases
 pub mod Runs

@@ -348,7 +348,7 @@ if-either true b x y = refl
 if-either false true x y = refl
 if-either false false x y = refl
 
-look-shows : (s : Row) → Valid s → row-answer look s ≡ seen (window-of (shown s))
+pub look-shows : (s : Row) → Valid s → row-answer look s ≡ seen (window-of (shown s))
 unfolding row-answer
 look-shows s h =
     ap seen

@@ -7,5 +7,7 @@ pub mod Counted
 pub mod Shown
 pub mod Wrong
 pub mod Letter
+pub mod Renewed
+pub mod Sentence
 pub mod Runs
 pub mod Cases

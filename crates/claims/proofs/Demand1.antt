@@ -1,16 +1,16 @@
 -- Demand 1 of the chip's definitions: each is taken apart once, at its tests. Assumes nothing.
-use Prim.Native.Nat.{ℕ, _+_, _-_, _*_, _<_, _≤_}
+use Prim.Native.Nat.{ℕ, _+_, _-_, _*_, _≤_}
 use mathlib.Core.Path.{_≡_, refl, sym, ap, ap₂, subst, _∙_}
 use mathlib.Core.Bool.{Bool, true, false, _&&_, _||_, not, false≢true}
 use mathlib.Core.List.{List, [], _∷_}
-use mathlib.Core.Logic.{_⊎_, inl, inr, ⊎-elim}
+use mathlib.Core.Logic.{inl, inr, ⊎-elim}
 use native.Mathlib.Omega.{arith}
 use lib.Dec.{ltb, leb, eqb}
 use lib.ListN.{length, replicate, length-replicate}
-use borrow.Author.Tests.{leb-true, le-leb, lt-leb, eqb-true, eqb-false, ne-eqb, not-true, not-false}
+use borrow.Author.Tests.{leb-true, le-leb, eqb-true, ne-eqb}
 use Rattle.laws.specs.Choice.{if_then_else_}
-use Rattle.laws.proofs.Choice.{if-case, if-true, if-false, both-true, left-true, right-true, left-false, not-of-true, not-of-false}
-use Rattle.laws.proofs.Tests.{clash, if-not}
+use Rattle.laws.proofs.Choice.{if-case, if-true, if-false, both-true, left-true, right-true}
+use Rattle.laws.proofs.Tests.{clash}
 use Rattle.calls.specs.declared.Call.{Call as Plain}
 use Rattle.calls.specs.declared.Call.the-variants.{Write, Read, SetBlock, SetWindow, SetExpected, PacketByte, Reset, Command, PacketWord, Status, Srst}
 use Rattle.reply.specs.Reply.{refusal, answer}
@@ -39,17 +39,16 @@ use Rattle.controller.specs.declared.step.Event.the-variants.{Stay, Advance}
 use Rattle.controller.specs.declared.step.Step.{Step}
 use Rattle.ring.specs.Memory.{stored}
 use Rattle.ring.specs.Place.{full, ring-facts}
-use Rattle.outcomes.specs.Machine.{Call, plain, sector, look, word, Answer, number}
+use Rattle.outcomes.specs.Machine.{Call, plain, sector, look, word, number}
 use Rattle.outcomes.proofs.Outcome.{concluded-refused}
 use Rattle.outcomes.proofs.Rows.{concluded-reply}
 use Rattle.chip.specs.Chip as chip
 use Rattle.chip.specs.Chip.{opened, ring-fits, finished}
 use Rattle.chip.specs.Calls.{called, sector-number, received-by, sector-told, sector-ring, next-word, word-by, word-told}
-use Rattle.chip.specs.Machine.{State, over, of-told, of-word, chip-answer, chip-step}
+use Rattle.chip.specs.Machine.{State, over, of-word, chip-answer, chip-step}
 use Rattle.chip.specs.Sound.{sound}
 use Rattle.chip.specs.declared.Chip.{Chip}
 use Rattle.chip.specs.declared.Told.{Told}
-use Rattle.chip.specs.declared.Word.{Word}
 use Rattle.chip.specs.declared.Word.the-variants.{Handed, Refused}
 use Rattle.chip.specs.declared.WordTold.{WordTold}
 use Rattle.claims.specs.Demand1.{Reasons, Applies, Lowest, one-of, read-registers, write-reasons, plain-reasons, reasons, Resultless, Refusal, sealing-reasons, Demand1}

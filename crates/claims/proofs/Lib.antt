@@ -15,6 +15,7 @@ pub mod Letter
 pub mod Cases
 pub mod Runs
 pub mod MetRuns
+pub mod NumbersMet
 pub mod CasesMet
 pub mod OneBook
 pub mod WrongWord

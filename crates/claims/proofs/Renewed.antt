@@ -1,6 +1,6 @@
 -- After a chip reset the chip is one newly opened over the memory that lies there. Assumes nothing.
 use Prim.Native.Nat.{ℕ, _*_, _≤_}
-use mathlib.Core.Path.{_≡_, refl, sym, ap, subst, _∙_}
+use mathlib.Core.Path.{_≡_, refl, sym, ap, _∙_}
 use mathlib.Core.Bool.{true}
 use mathlib.Core.List.{List, [], _∷_}
 use lib.ListN.{length}
@@ -10,8 +10,8 @@ use Rattle.controller.specs.Calls.{stepped}
 use Rattle.controller.specs.State.{initial}
 use Rattle.controller.specs.Transfer.{settled, concluded}
 use Rattle.ring.specs.Place as ring
-use Rattle.outcomes.specs.Machine.{Call, plain, replied, after, answers}
-use Rattle.outcomes.specs.Row.{Row, row-step, the-row}
+use Rattle.outcomes.specs.Machine.{Call, plain, after, answers}
+use Rattle.outcomes.specs.Row.{Row, row-step}
 use Rattle.outcomes.proofs.Rows.{kept}
 use Rattle.chip.specs.Calls.{called}
 use Rattle.chip.specs.Machine.{State, over, of-told, chip-answer, chip-step, the-chip}
@@ -19,7 +19,7 @@ use Rattle.chip.specs.Sound.{sound}
 use Rattle.chip.specs.declared.Chip.{Chip}
 use Rattle.chip.specs.declared.Told.{Told}
 use Rattle.claims.specs.Refinement.{Refines}
-use Rattle.claims.specs.Renewed.{Anew, Renewed}
+use Rattle.claims.specs.Renewed.{Renewed}
 use Rattle.claims.proofs.Memory.{memory-free}
 use Rattle.claims.proofs.Refines.{refined-sound, refined-step, refines-opened, opened-chip}
 

@@ -1,6 +1,6 @@
 -- The regulator's sentence: every sector of the book's row came by an accepted sector call and was checked, and the blocks that count hold the row.
 -- Assumes nothing.
-use Prim.Native.Nat.{ℕ, zero, suc, _+_, _*_, _%_, _<_, _≤_}
+use Prim.Native.Nat.{ℕ, zero, suc, _+_, _*_, _<_, _≤_}
 use mathlib.Core.Path.{_≡_, refl, sym, ap, subst, _∙_}
 use mathlib.Core.Bool.{Bool, true, false, _&&_, _||_, not, false≢true}
 use mathlib.Core.List.{List, [], _∷_, _++_}
@@ -12,7 +12,7 @@ use lib.ListN.{length, take, drop, getD}
 use borrow.Author.Tests.{eqb-true, eqb-false}
 use Rattle.laws.specs.Bytes.{word-at}
 use Rattle.laws.specs.Choice.{if_then_else_}
-use Rattle.laws.proofs.Choice.{if-case, left-true, right-true, right-false, not-of-false}
+use Rattle.laws.proofs.Choice.{if-case, right-false, not-of-false}
 use Rattle.laws.proofs.Tests.{or-false}
 use Rattle.calls.specs.declared.Call.the-variants.{Write, Read, SetBlock, SetWindow, SetExpected, PacketByte, Reset, Command, PacketWord, Status, Srst}
 use Rattle.reply.specs.declared.Reply.{Reply}
@@ -22,8 +22,7 @@ use Rattle.sector.specs.declared.Address.{Address}
 use Rattle.controller.specs.Bits.{bit}
 use Rattle.controller.specs.Fields.{_▹_}
 use Rattle.controller.specs.Host.{host-word}
-use Rattle.ring.specs.Memory.{block}
-use Rattle.outcomes.specs.Book.{Book, row≔, acmen≔, k≔, first-book, takes, joined, fed, feed}
+use Rattle.outcomes.specs.Book.{Book, row≔, acmen≔, first-book, takes, joined, fed, feed}
 use Rattle.outcomes.specs.Machine.{Call, plain, sector, look, word, Answer, replied, handed, refused, seen, number, Machine, after}
 use Rattle.outcomes.specs.Row.{Row, Valid, shown, word-step, row-answer}
 use Rattle.outcomes.proofs.Calls.{word-running}
@@ -34,8 +33,7 @@ use Rattle.chip.specs.Machine.{State, chip-answer, the-chip}
 use Rattle.chip.specs.Sound.{sound}
 use Rattle.claims.specs.Counted.{book-after, Counted}
 use Rattle.claims.specs.Demand3.{Right}
-use Rattle.claims.specs.Refinement.{Refines}
-use Rattle.claims.specs.Sentence.{Arrival, brought, bring, arrivals, Checked, Among, Read-and-checked, Row-checked, tcc, block-at, Upheld, Sentence}
+use Rattle.claims.specs.Sentence.{Arrival, brought, bring, arrivals, Checked, Among, Read-and-checked, Row-checked, tcc, block-at, Sentence}
 use Rattle.claims.specs.Shown.{window-of}
 use Rattle.claims.proofs.Counted.{counted-holds}
 use Rattle.claims.proofs.Demand1.{demand1}

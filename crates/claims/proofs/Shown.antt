@@ -1,14 +1,14 @@
 -- What the answers show of the book: of the row machine, and of a machine that simulates it. Assumes nothing.
-use Prim.Native.Nat.{ℕ, _+_, _-_, _*_, _≤_}
-use mathlib.Core.Path.{_≡_, refl, sym, ap, ap₂, subst, _∙_}
+use Prim.Native.Nat.{ℕ, _+_, _*_}
+use mathlib.Core.Path.{_≡_, refl, sym, ap, subst, _∙_}
 use mathlib.Core.Bool.{Bool, true, false, _&&_, _||_, not, false≢true}
 use mathlib.Core.List.{List, [], _∷_}
 use lib.Dec.{eqb, leb, ltb}
 use lib.ListN.{length, take, drop, getD}
-use borrow.Author.Tests.{eqb-true, eqb-false, ne-eqb}
+use borrow.Author.Tests.{eqb-true}
 use Rattle.laws.specs.Choice.{if_then_else_}
 use Rattle.laws.specs.Numbers.{weight}
-use Rattle.laws.proofs.Choice.{if-case, if-true, if-false, both-true, left-true, right-true}
+use Rattle.laws.proofs.Choice.{if-case, if-true, if-false, left-true, right-true}
 use Rattle.laws.proofs.Tests.{clash}
 use Rattle.calls.specs.declared.Call.{Call as Plain}
 use Rattle.calls.specs.declared.Call.the-variants.{Write, Read, SetBlock, SetWindow, SetExpected, PacketByte, Reset, Command, PacketWord, Status, Srst}
@@ -21,23 +21,22 @@ use Rattle.sector.specs.declared.Judgement.{Judgement}
 use Rattle.controller.specs.Bits.{bit, only, differs}
 use Rattle.controller.specs.Calls.{stepped}
 use Rattle.controller.specs.Decoder.{counted}
-use Rattle.controller.specs.Fields.{_▹_, mbc≔, decen≔, running≔, received≔, receiving≔, fpkt≔}
+use Rattle.controller.specs.Fields.{_▹_, mbc≔, running≔, received≔, receiving≔, fpkt≔}
 use Rattle.controller.specs.Host.{data-ended, ended, block-taken, host-word, host-command, packet-more, packet-word}
 use Rattle.controller.specs.Named.{set-block, window-fits, set-window, set-expected, packet-byte}
 use Rattle.controller.specs.Read.{read}
-use Rattle.controller.specs.Step.{refused, replied as replied-step, done, guarded}
-use Rattle.controller.specs.Transfer.{engaged, start-switches, start-mbc, blocks-lacking, byte-count, start, completed, settled, concluded}
+use Rattle.controller.specs.Step.{guarded}
+use Rattle.controller.specs.Transfer.{engaged, start-switches, start-mbc, blocks-lacking, byte-count, start, completed, concluded}
 use Rattle.controller.specs.Write.{write-tack, write-ctrl0, write-mbtc0, write-astrg, write-asctrl, write-task, write-atsta, write-apksta, write-ascsta, write-bicctl, write-buflim, write-acctl, write-tcc, write-skipc, write-ttc, write}
 use Rattle.controller.specs.declared.state.Controller.{Controller}
 use Rattle.controller.specs.declared.state.Counts.{Counts}
-use Rattle.controller.specs.declared.step.Event.the-variants.{Stay, Advance}
 use Rattle.controller.specs.declared.step.RingFacts.{RingFacts}
 use Rattle.controller.specs.declared.step.Step.{Step}
 use Rattle.outcomes.specs.Book.{Book, feed}
-use Rattle.outcomes.specs.Machine.{Call, plain, sector, look, word, Answer, replied, handed, seen, number, Machine}
-use Rattle.outcomes.specs.Row.{Row, Valid, shown, row-facts, plain-step, word-step, sector-number, sector-step, grown, answered, word-answered, looked, row-answer, row-step, the-row}
+use Rattle.outcomes.specs.Machine.{Call, plain, sector, look, word, Answer, replied, seen, number, Machine}
+use Rattle.outcomes.specs.Row.{Row, Valid, shown, row-facts, word-step, sector-number, sector-step, grown, answered, word-answered, looked, row-answer, row-step, the-row}
 use Rattle.outcomes.proofs.Outcome.{settled-counts}
-use Rattle.outcomes.proofs.Rows.{concluded-reply, number-word, kept, valid-opened}
+use Rattle.outcomes.proofs.Rows.{concluded-reply, kept, valid-opened}
 use Rattle.chip.specs.Machine.{the-chip}
 use Rattle.claims.specs.Demand3.{masked}
 use Rattle.claims.specs.Refinement.{Simulation}

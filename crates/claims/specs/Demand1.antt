@@ -14,7 +14,6 @@ use Rattle.laws.specs.Choice.{if_then_else_}
 use Rattle.calls.specs.declared.Call.{Call as Plain}
 use Rattle.calls.specs.declared.Call.the-variants.{Write, Read, SetBlock, SetWindow, SetExpected, PacketByte, Reset, Command, PacketWord, Status, Srst}
 use Rattle.reply.specs.Reply.{refusal, answer}
-use Rattle.reply.specs.declared.Reply.{Reply}
 use Rattle.sector.specs.Address.{valid}
 use Rattle.sector.specs.Calls.{whole, seal-reply, seal-sector, open-reply, open-sector, refused as unjudged, judge-answer}
 use Rattle.sector.specs.declared.Address.{Address}

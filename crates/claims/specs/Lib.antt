@@ -10,4 +10,5 @@ pub mod Letter
 pub mod Renewed
 pub mod Sentence
 pub mod Runs
+pub mod NumbersMet
 pub mod Cases

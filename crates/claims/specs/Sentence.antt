@@ -17,7 +17,7 @@ use Rattle.sector.specs.Receive.{received}
 use Rattle.sector.specs.declared.Address.{Address}
 use Rattle.ring.specs.Memory.{block}
 use Rattle.outcomes.specs.Book.{Book, first-book, feed}
-use Rattle.outcomes.specs.Machine.{Call, plain, sector, look, word, Answer, handed, seen, number, Machine, after}
+use Rattle.outcomes.specs.Machine.{Call, plain, sector, look, word, handed, seen, number, Machine, after}
 use Rattle.chip.specs.Machine.{State, chip-answer, the-chip}
 use Rattle.claims.specs.Counted.{book-after}
 

@@ -39,12 +39,12 @@ use Rattle.controller.specs.declared.step.Event.the-variants.{Stay, Advance}
 use Rattle.controller.specs.declared.step.Step.{Step}
 use Rattle.ring.specs.Memory.{stored}
 use Rattle.ring.specs.Place.{full, ring-facts}
-use Rattle.outcomes.specs.Machine.{Call, plain, sector, look, word, number}
+use Rattle.outcomes.specs.Machine.{Call, plain, sector, look, word, seen, number}
 use Rattle.outcomes.proofs.Outcome.{concluded-refused}
 use Rattle.outcomes.proofs.Rows.{concluded-reply}
 use Rattle.chip.specs.Chip as chip
 use Rattle.chip.specs.Chip.{opened, ring-fits, finished}
-use Rattle.chip.specs.Calls.{called, sector-number, received-by, sector-told, sector-ring, next-word, word-by, word-told}
+use Rattle.chip.specs.Calls.{called, sector-number, received-by, sector-told, sector-ring, looked, next-word, word-by, word-told}
 use Rattle.chip.specs.Machine.{State, over, of-word, chip-answer, chip-step}
 use Rattle.chip.specs.Sound.{sound}
 use Rattle.chip.specs.declared.Chip.{Chip}
@@ -525,6 +525,16 @@ refusals word s some =
     let most = w .most in
     record { listed = (omega arith, most); resultless = both .0; unchanged = ap (λ (k : Chip). over k (s .ring)) (both .1) }
 
+look-keeps : (s : State) → chip-step look s ≡ s
+unfolding chip-step
+look-keeps s = refl
+
+unseen : (s : State)
+    → (sound (s .chip) && ring-fits (s .chip) (s .ring) && not (eqb (s .chip .controller .counts .tcc) 0) && not (eqb (s .chip .controller .window .words) 0)) ≡ false
+    → chip-answer look s ≡ seen []
+unfolding chip-answer looked
+unseen s e = ap seen (if-false (sound (s .chip) && ring-fits (s .chip) (s .ring) && not (eqb (s .chip .controller .counts .tcc) 0) && not (eqb (s .chip .controller .window .words) 0)) _ [] e)
+
 -- Opening
 
 open-true : (n : ℕ) → 3 ≤ n → n ≤ 255 → (leb 3 n && leb n 255) ≡ true
@@ -613,6 +623,8 @@ pub demand1 : Demand1
 demand1 = record {
   answered = lowest-answer;
   refused = refusals;
+  looked = look-keeps;
+  unseen = unseen;
   opening = opening;
   unopened = unopened;
   sealing = λ s a. subst (Lowest (sealing-reasons s a)) (sym (seals s a .number-is)) (alone s a (whole s) (valid a) .lowest);

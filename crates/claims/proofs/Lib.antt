@@ -1,4 +1,5 @@
--- Demand 1; demand 3 of the row machine, how the chip refines it, and what follows: what counts, the letter, machines that are shut out, runs and cases.
+-- Demand 1; demand 3 of the row machine, how the chip refines it, and what follows: what counts, what the answers show, the letter, a chip reset, the
+-- regulator's sentence, machines that are shut out, runs and cases.
 pub mod Demand1
 pub mod RowSizes
 pub mod RowWords

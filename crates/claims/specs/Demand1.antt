@@ -1,8 +1,8 @@
 -- Demand 1 (paper 01, "Reply numbers"): every call answers, with the lowest number that applies, and a refusal has a zero result and changes
--- nothing. It is stated of every record, also one made by hand, and of lent memory and sectors of any length: nothing is assumed of them. A call's
--- reasons stand here in a table of their own, so that the claim says more than that the definitions refuse as they refuse; they use the words
--- of the definitions (`engaged`, `start-switches`, `only`, ..). It does not say what an accepted call does (demand 2), nor that the code meets
--- the definitions, which is each function's contract. Assumes nothing.
+-- nothing. It is stated of every record, also one made by hand, and of lent memory and sectors of any length: nothing is asked of them. A call's
+-- reasons stand here in a table of their own, in the words of the definitions (`engaged`, `start-switches`, `only`, ..), so that the claim says more than
+-- that a definition refuses as it refuses. What it does not say: what an accepted call does (demand 2); that the code meets the definitions, which is
+-- each function's contract; and what a line of the bench or an exported call answers, which are contracts too. Assumes nothing.
 use Prim.Native.Nat.{ℕ, _+_, _≤_}
 use mathlib.Core.Path.{_≡_}
 use mathlib.Core.Bool.{Bool, true, false, _&&_, _||_, not}
@@ -130,6 +130,11 @@ pub record Demand1 : Type 0 where
   -- every call of any record over any ring
   pub answered : (call : Call) (s : State) → Lowest (reasons call s) (number (chip-answer call s))
   pub refused : (call : Call) (s : State) → (number (chip-answer call s) ≡ 0 → ⊥) → Refusal call s
+  -- a look has no number and changes nothing; of an unsound record, over a ring of wrong size, with TCC 0 or without a window it shows no byte
+  pub looked : (s : State) → chip-step look s ≡ s
+  pub unseen : (s : State)
+      → (sound (s .chip) && ring-fits (s .chip) (s .ring) && not (eqb (s .chip .controller .counts .tcc) 0) && not (eqb (s .chip .controller .window .words) 0)) ≡ false
+      → chip-answer look s ≡ seen []
   -- opening: 3..255 is done and gives a sound record with that many blocks; any other is 1 and gives an unsound one with N = 0
   pub opening : (n : ℕ) → 3 ≤ n → n ≤ 255 → (opened n .reply ≡ answer 0) × (opened n .chip .place .n ≡ n) × (sound (opened n .chip) ≡ true)
   pub unopened : (n : ℕ) → (3 ≤ n → n ≤ 255 → ⊥) → (opened n .reply ≡ refusal 1) × (opened n .chip .place .n ≡ 0) × (sound (opened n .chip) ≡ false)

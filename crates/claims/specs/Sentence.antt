@@ -1,7 +1,8 @@
 -- The regulator's sentence: no block shall count that was not read and checked since the ring was started (paper 01, "The ring", "Sectors",
 -- "Demand 3 in full"). It is stated of the chip with its memory, whatever lay there, after any list of calls, so that it holds before and after every
--- call. Checked is what paper 01 judges: sync, mode 1, EDC and the address expected of the sector when it came; parity is not judged. What it does
--- not say: that the disc holds what its sectors say, and that a sector with a right EDC has no wrong byte. Assumes nothing.
+-- call. Started is the opening or the last chip reset; checked is what paper 01 judges: sync, mode 1, EDC and the address expected of the sector
+-- when it came. What it does not say: that a sector counts only once and in the order of the calls, which is Accounted and Never-again (Letter.antt);
+-- anything of parity, which is not judged; and that a sector with a right EDC has no wrong byte. Assumes nothing.
 use Prim.Native.Nat.{ℕ, _+_, _*_, _%_, _<_, _≤_}
 use mathlib.Core.Path.{_≡_}
 use mathlib.Core.Bool.{true}
@@ -23,7 +24,7 @@ use Rattle.claims.specs.Counted.{book-after}
 
 -- Read: the sectors that came
 
--- a sector as the call was lent it, and the address that was expected of it
+-- a sector as the call was lent it, and the address that was expected of it: the book's, which is the chip's own (Counted, `shows`)
 pub record Arrival : Type 0 where
   pub expected : Address
   pub lent : List ℕ

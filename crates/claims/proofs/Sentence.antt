@@ -189,9 +189,6 @@ row-checked = row-checked-by the-chip chip-whole
 
 -- The chip's blocks, words and looks
 
-handed-number : (a : Answer) (w : ℕ) → a ≡ handed w → number a ≡ 0
-handed-number a w e = ap number e
-
 abbrev bytes-of : Answer → List ℕ
 bytes-of (seen bytes) = bytes
 bytes-of (replied n v) = []

@@ -25,7 +25,6 @@ use Rattle.controller.specs.Fields.{_▹_, mbc≔, running≔, received≔, rec
 use Rattle.controller.specs.Host.{data-ended, ended, block-taken, host-word, host-command, packet-more, packet-word}
 use Rattle.controller.specs.Named.{set-block, window-fits, set-window, set-expected, packet-byte}
 use Rattle.controller.specs.Read.{read}
-use Rattle.controller.specs.Step.{guarded}
 use Rattle.controller.specs.Transfer.{engaged, start-switches, start-mbc, blocks-lacking, byte-count, start, completed, concluded}
 use Rattle.controller.specs.Write.{write-tack, write-ctrl0, write-mbtc0, write-astrg, write-asctrl, write-task, write-atsta, write-apksta, write-ascsta, write-bicctl, write-buflim, write-acctl, write-tcc, write-skipc, write-ttc, write}
 use Rattle.controller.specs.declared.state.Controller.{Controller}
@@ -56,10 +55,6 @@ module _ (c : Controller) where
   either : (b : Bool) {x y : Step} → Keeps c x → Keeps c y → Keeps c (if b then x else y)
   either true p q = p
   either false p q = q
-
-  past : (tests : List (Bool × ℕ)) {s : Step} → Keeps c s → Keeps c (guarded c tests s)
-  past [] k = k
-  past (t ∷ ts) k = either (t .0) (record { held = refl }) (past ts k)
 
   ends : (d : Controller) → ended d .counts ≡ d .counts
   unfolding ended data-ended

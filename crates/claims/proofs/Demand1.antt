@@ -51,14 +51,10 @@ use Rattle.chip.specs.declared.Chip.{Chip}
 use Rattle.chip.specs.declared.Told.{Told}
 use Rattle.chip.specs.declared.Word.the-variants.{Handed, Refused}
 use Rattle.chip.specs.declared.WordTold.{WordTold}
-use Rattle.claims.specs.Demand1.{Reasons, Applies, Lowest, one-of, read-registers, write-reasons, plain-reasons, reasons, Resultless, Refusal, sealing-reasons, Demand1}
+use Rattle.claims.specs.Demand1.{Reasons, Applies, Lowest, ordered, one-of, read-registers, write-reasons, plain-reasons, reasons, Resultless, Refusal, sealing-reasons, Demand1}
 use Rattle.claims.proofs.Refines.{refined-sound, refines-opened}
 
--- Reasons in the order of their numbers, from low to high
-
-abbrev ordered : ℕ → ℕ → Reasons → Bool
-ordered low high [] = true
-ordered low high (r ∷ rs) = leb low (r .1) && (leb (r .1) high && ordered (r .1) high rs)
+-- Reasons in the order of their numbers
 
 at-least : (low high : ℕ) (rs : Reasons) → ordered low high rs ≡ true → (j : ℕ) → Applies rs j → low ≤ j
 at-least low high [] o j a = absurd a
@@ -621,6 +617,7 @@ module _ (s : List ℕ) where
 
 pub demand1 : Demand1
 demand1 = record {
+  tested = λ c rs o s z. guards c rs o s z .lowest;
   answered = lowest-answer;
   refused = refusals;
   looked = look-keeps;

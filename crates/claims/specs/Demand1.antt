@@ -20,8 +20,10 @@ use Rattle.sector.specs.declared.Address.{Address}
 use Rattle.controller.specs.Bits.{bit, only, differs}
 use Rattle.controller.specs.Decoder.{at-stop}
 use Rattle.controller.specs.Named.{window-fits}
+use Rattle.controller.specs.Step.{guarded}
 use Rattle.controller.specs.Transfer.{engaged, start-switches, blocks-lacking}
 use Rattle.controller.specs.declared.state.Controller.{Controller}
+use Rattle.controller.specs.declared.step.Step.{Step}
 use Rattle.ring.specs.Place.{full}
 use Rattle.outcomes.specs.Machine.{Call, plain, sector, look, word, Answer, replied, handed, refused, seen, number}
 use Rattle.chip.specs.Chip.{opened, ring-fits}
@@ -43,6 +45,11 @@ Applies (r ∷ rs) k = ((r .0 ≡ true) × (r .1 ≡ k)) ⊎ Applies rs k
 pub record Lowest (rs : Reasons) (k : ℕ) : Type 0 where
   pub applies : (k ≡ 0 → ⊥) → Applies rs k
   pub lowest : (j : ℕ) → Applies rs j → (k ≡ 0 → ⊥) × (k ≤ j)
+
+-- the numbers are from low to high, and none is below the one before it
+abbrev pub ordered : ℕ → ℕ → Reasons → Bool
+ordered low high [] = true
+ordered low high (r ∷ rs) = leb low (r .1) && (leb (r .1) high && ordered (r .1) high rs)
 
 -- 2. The reasons of each call
 
@@ -127,6 +134,8 @@ abbrev pub sealing-reasons : List ℕ → Address → Reasons
 sealing-reasons s a = (not (whole s), 1) ∷ (not (valid a), 3) ∷ []
 
 pub record Demand1 : Type 0 where
+  -- a controller's definition by a list of tests in the order of their numbers gives the lowest that applies
+  pub tested : (c : Controller) (rs : Reasons) → ordered 1 6 rs ≡ true → (s : Step) → s .reply .number ≡ 0 → Lowest rs (guarded c rs s .reply .number)
   -- every call of any record over any ring
   pub answered : (call : Call) (s : State) → Lowest (reasons call s) (number (chip-answer call s))
   pub refused : (call : Call) (s : State) → (number (chip-answer call s) ≡ 0 → ⊥) → Refusal call s

@@ -1,10 +1,10 @@
 -- What the chip counts is the book's row, over any list of calls. Assumes nothing.
-use mathlib.Core.Path.{_≡_, refl, sym, ap, subst, _∙_}
+use mathlib.Core.Path.{_≡_, refl, sym, ap, ap₂, subst, _∙_}
 use mathlib.Core.List.{List, [], _∷_}
 use lib.ListN.{length}
 use Prim.Native.Nat.{ℕ, _+_}
 use Rattle.laws.specs.Numbers.{weight}
-use Rattle.outcomes.specs.Book.{Book, feed}
+use Rattle.outcomes.specs.Book.{Book, feed, book-of}
 use Rattle.outcomes.specs.Machine.{Call, number, after}
 use Rattle.outcomes.specs.Row.{Row, shown, row-answer, row-step}
 use Rattle.outcomes.proofs.Rows.{kept}
@@ -21,6 +21,7 @@ of-refines s r b f e =
     let t = sym (f .valid .good) ∙ ap length rows in
     record {
       refines = subst (λ (w : List (List ℕ)). Refines s (record { controller = s .chip .controller; blocks = s .chip .place .n; row = w })) rows (subst (Refines s) (sym own) f);
+      shows = ap₂ book-of (f .controller) (sym rows) ∙ e;
       tcc = rw (f .controller) t;
       bufc = rw (f .controller) (f .valid .invariant .consistent .buffered ∙ ap (λ (n : ℕ). n + weight (r .controller .counts .held) 1) t);
     }

@@ -6,7 +6,7 @@ use mathlib.Core.Path.{_≡_}
 use mathlib.Core.List.{List, [], _∷_}
 use lib.ListN.{length}
 use Rattle.laws.specs.Numbers.{weight}
-use Rattle.outcomes.specs.Book.{Book, feed, first-book}
+use Rattle.outcomes.specs.Book.{Book, feed, first-book, book-of}
 use Rattle.outcomes.specs.Machine.{Call, number, Machine, after}
 use Rattle.chip.specs.Machine.{State, the-chip}
 use Rattle.claims.specs.Refinement.{Refines}
@@ -19,6 +19,8 @@ book-after M (c ∷ cs) s b = book-after M cs (M .step c s) (feed c (number (M .
 pub record Counted (s : State) (b : Book) : Type 0 where
   -- the chip's ring holds the book's row
   pub refines : Refines s (record { controller = s .chip .controller; blocks = s .chip .place .n; row = b .row })
+  -- the address, the window, ACMEN and the position that the chip keeps are the book's, which knows the calls and their reply numbers alone
+  pub shows : book-of (s .chip .controller) (b .row) ≡ b
   -- TCC is the number of sectors in the row, and BUFC one more while a bad sector is held
   pub tcc : s .chip .controller .counts .tcc ≡ length (b .row)
   pub bufc : s .chip .controller .counts .bufc ≡ length (b .row) + weight (s .chip .controller .counts .held) 1

@@ -1,0 +1,415 @@
+-- What the answers show of the book: of the row machine, and of a machine that simulates it. Assumes nothing.
+use Prim.Native.Nat.{ℕ, _+_, _*_}
+use mathlib.Core.Path.{_≡_, refl, sym, ap, subst, _∙_}
+use mathlib.Core.Bool.{Bool, true, false, _&&_, _||_, not, false≢true}
+use mathlib.Core.List.{List, [], _∷_}
+use lib.Dec.{eqb, leb, ltb}
+use lib.ListN.{length, take, drop, getD}
+use borrow.Author.Tests.{eqb-true}
+use Rattle.laws.specs.Choice.{if_then_else_}
+use Rattle.laws.specs.Numbers.{weight}
+use Rattle.laws.proofs.Choice.{if-case, if-true, if-false, left-true, right-true}
+use Rattle.laws.proofs.Tests.{clash}
+use Rattle.calls.specs.declared.Call.{Call as Plain}
+use Rattle.calls.specs.declared.Call.the-variants.{Write, Read, SetBlock, SetWindow, SetExpected, PacketByte, Reset, Command, PacketWord, Status, Srst}
+use Rattle.reply.specs.declared.Reply.{Reply}
+use Rattle.sector.specs.Address.{valid}
+use Rattle.sector.specs.declared.Address.{Address}
+use Rattle.sector.specs.Judge.{good, tarsta-byte}
+use Rattle.sector.specs.Receive.{received}
+use Rattle.sector.specs.declared.Judgement.{Judgement}
+use Rattle.controller.specs.Bits.{bit, only, differs}
+use Rattle.controller.specs.Calls.{stepped}
+use Rattle.controller.specs.Decoder.{counted}
+use Rattle.controller.specs.Fields.{_▹_, mbc≔, running≔, received≔, receiving≔, fpkt≔}
+use Rattle.controller.specs.Host.{data-ended, ended, block-taken, host-word, host-command, packet-more, packet-word}
+use Rattle.controller.specs.Named.{set-block, window-fits, set-window, set-expected, packet-byte}
+use Rattle.controller.specs.Read.{read}
+use Rattle.controller.specs.Transfer.{engaged, start-switches, start-mbc, blocks-lacking, byte-count, start, completed, concluded}
+use Rattle.controller.specs.Write.{write-tack, write-ctrl0, write-mbtc0, write-astrg, write-asctrl, write-task, write-atsta, write-apksta, write-ascsta, write-bicctl, write-buflim, write-acctl, write-tcc, write-skipc, write-ttc, write}
+use Rattle.controller.specs.declared.state.Controller.{Controller}
+use Rattle.controller.specs.declared.state.Counts.{Counts}
+use Rattle.controller.specs.declared.step.RingFacts.{RingFacts}
+use Rattle.controller.specs.declared.step.Step.{Step}
+use Rattle.outcomes.specs.Book.{Book, feed}
+use Rattle.outcomes.specs.Machine.{Call, plain, sector, look, word, Answer, replied, seen, number, Machine}
+use Rattle.outcomes.specs.Row.{Row, Valid, shown, row-facts, word-step, sector-number, sector-step, grown, answered, word-answered, looked, row-answer, row-step, the-row}
+use Rattle.outcomes.proofs.Outcome.{settled-counts}
+use Rattle.outcomes.proofs.Rows.{concluded-reply, kept, valid-opened}
+use Rattle.chip.specs.Machine.{the-chip}
+use Rattle.claims.specs.Demand3.{masked}
+use Rattle.claims.specs.Refinement.{Simulation}
+use Rattle.claims.specs.Shown.{window-of, result, holding, held-after, Shows, Shows-run, Shown}
+use Rattle.claims.proofs.Refines.{chip-simulates}
+use Rattle.claims.proofs.Simulated.{same-number}
+
+-- Every call but a sector, 0Ah = 00h and a chip reset leaves held, in any controller
+
+record Keeps (c : Controller) (s : Step) : Type 0 where
+  held : s .controller .counts .held ≡ c .counts .held
+
+module _ (c : Controller) where
+  same : {s : Step} → s .controller .counts .held ≡ c .counts .held → Keeps c s
+  same e = record { held = e }
+
+  either : (b : Bool) {x y : Step} → Keeps c x → Keeps c y → Keeps c (if b then x else y)
+  either true p q = p
+  either false p q = q
+
+  ends : (d : Controller) → ended d .counts ≡ d .counts
+  unfolding ended data-ended
+  ends d =
+      let halfway : data-ended d .counts ≡ d .counts =
+      if-case (λ (x : Controller). x .counts ≡ d .counts) (d .asctrl .adcen) _ _ (λ _. refl) (λ _. refl) in
+      if-case (λ (x : Controller). x .counts ≡ d .counts) (d .asctrl .ascen) (completed (data-ended d)) (data-ended d) (λ _. halfway) (λ _. halfway)
+
+  tack : (v : ℕ) → Keeps c (write-tack c v)
+  unfolding write-tack
+  tack v = either (ltb 255 v) (same refl) (same refl)
+
+  ctrl0 : (v : ℕ) → eqb v 0x00 ≡ false → Keeps c (write-ctrl0 c v)
+  unfolding write-ctrl0
+  ctrl0 v e =
+      if-case (Keeps c) (eqb v 0) _ _ (λ f. clash (eqb v 0) e f) (λ _.
+      either (not (eqb v 0x80)) (same refl) (either (not (c .buffering .blimen && c .acctl .tcincen)) (same refl) (same refl)))
+
+  mbtc0 : (v : ℕ) → Keeps c (write-mbtc0 c v)
+  unfolding write-mbtc0
+  mbtc0 v = either (ltb 31 v) (same refl) (either (c .transfer .running) (same refl) (same refl))
+
+  counted-bytes : (d : Controller) → byte-count d .counts ≡ d .counts
+  unfolding byte-count
+  counted-bytes d = if-case (λ (x : Controller). x .counts ≡ d .counts) (not (d .asctrl .stwcen)) _ _ (λ _. refl) (λ _. refl)
+
+  starts : Keeps c (start c)
+  unfolding start
+  starts =
+      either (not (start-switches c)) (same refl)
+      (either (blocks-lacking c) (same refl)
+      (same (ap (λ (k : Counts). k .held) (counted-bytes (c ▹ mbc≔ (start-mbc c))))))
+
+  astrg : (v : ℕ) → Keeps c (write-astrg c v)
+  unfolding write-astrg
+  astrg v =
+      either (not (eqb v 0x01 || eqb v 0x04 || eqb v 0x10)) (same refl)
+      (either (engaged c) (same refl)
+      (either (eqb v 0x01) (same refl) (either (eqb v 0x04) starts (same refl))))
+
+  asctrl : (v : ℕ) → Keeps c (write-asctrl c v)
+  unfolding write-asctrl
+  asctrl v = either (not (only (7 ∷ 6 ∷ 5 ∷ 4 ∷ 3 ∷ 0 ∷ []) v && (bit v 6 || not (bit v 5)))) (same refl) (either (engaged c) (same refl) (same refl))
+
+  task : (reg v : ℕ) → Keeps c (write-task c reg v)
+  unfolding write-task
+  task reg v = either (ltb 255 v) (same refl) (same refl)
+
+  atsta : (v : ℕ) → Keeps c (write-atsta c v)
+  unfolding write-atsta
+  atsta v = either (not (only (7 ∷ 6 ∷ 4 ∷ 2 ∷ 0 ∷ []) v)) (same refl) (either (engaged c) (same refl) (same refl))
+
+  apksta : (v : ℕ) → Keeps c (write-apksta c v)
+  unfolding write-apksta
+  apksta v = either (not (only (4 ∷ []) v)) (same refl) (same refl)
+
+  ascsta : (v : ℕ) → Keeps c (write-ascsta c v)
+  unfolding write-ascsta
+  ascsta v = either (not (only (6 ∷ 2 ∷ 0 ∷ []) v)) (same refl) (same refl)
+
+  bicctl : (v : ℕ) → Keeps c (write-bicctl c v)
+  unfolding write-bicctl
+  bicctl v = either (not (only (5 ∷ 4 ∷ []) v)) (same refl) (either (c .buffering .decen) (same refl) (same refl))
+
+  buflim : (v n : ℕ) → Keeps c (write-buflim c v n)
+  unfolding write-buflim
+  buflim v n = either (ltb n (v + 2)) (same refl) (either (c .buffering .decen) (same refl) (same refl))
+
+  acctl : (v : ℕ) → Keeps c (write-acctl c v)
+  unfolding write-acctl
+  acctl v =
+      either (ltb 255 v) (same refl)
+      (either (c .transfer .running) (same refl)
+      (either (c .buffering .decen && differs (bit v 5) (c .acctl .tcincen)) (same refl)
+      (either (bit v 6) (same refl) (same refl))))
+
+  lowered : (v : ℕ) → Keeps c (write-tcc c v)
+  unfolding write-tcc
+  lowered v =
+      either (ltb 255 v) (same refl)
+      (either (c .transfer .running) (same refl)
+      (either (c .buffering .decen) (same refl)
+      (either (ltb (c .counts .tcc) v) (same refl) (same refl))))
+
+  skipc : (v : ℕ) → Keeps c (write-skipc c v)
+  unfolding write-skipc
+  skipc v =
+      either (ltb 255 v) (same refl)
+      (either (c .transfer .running) (same refl)
+      (either (not (c .acctl .acmen)) (same refl)
+      (either (ltb (c .counts .tcc) v) (same refl) (same refl))))
+
+  ttc : (v : ℕ) → Keeps c (write-ttc c v)
+  unfolding write-ttc
+  ttc v =
+      either (ltb 255 v) (same refl)
+      (either (c .transfer .running) (same refl)
+      (either (not (c .acctl .acmen)) (same refl) (same refl)))
+
+  written : (reg v n : ℕ) → (eqb reg 0x0A && eqb v 0x00) ≡ false → Keeps c (write c reg v n)
+  unfolding write
+  written reg v n f =
+      either (eqb reg 0x07) (tack v)
+      (if-case (Keeps c) (eqb reg 0x0A) _ _ (λ e. ctrl0 v (second (eqb reg 0x0A) (eqb v 0x00) e f)) λ _.
+      either (eqb reg 0x12) (mbtc0 v)
+      (either (eqb reg 0x17) (astrg v)
+      (either (eqb reg 0x18) (asctrl v)
+      (either (eqb reg 0x31) (task reg v)
+      (either (eqb reg 0x32) (task reg v)
+      (either (eqb reg 0x34) (task reg v)
+      (either (eqb reg 0x35) (task reg v)
+      (either (eqb reg 0x37) (atsta v)
+      (either (eqb reg 0x3D) (apksta v)
+      (either (eqb reg 0x3E) (ascsta v)
+      (either (eqb reg 0x9A) (bicctl v)
+      (either (eqb reg 0x9B) (buflim v n)
+      (either (eqb reg 0x9C) (acctl v)
+      (either (eqb reg 0x9D) (lowered v)
+      (either (eqb reg 0x9E) (skipc v)
+      (either (eqb reg 0x9F) (ttc v) (same refl)))))))))))))))))
+    where
+      second : (a b : Bool) → a ≡ true → (a && b) ≡ false → b ≡ false
+      second true b e g = g
+      second false b e g = absurd (false≢true e)
+
+  reads : (reg : ℕ) (ring : RingFacts) → Keeps c (read c reg ring)
+  unfolding read
+  reads reg ring =
+      either (eqb reg 0x12) (same refl) (either (eqb reg 0x18) (same refl) (either (eqb reg 0x24) (same refl) (either (eqb reg 0x25) (same refl)
+      (either (eqb reg 0x30) (same refl) (either (eqb reg 0x31) (same refl) (either (eqb reg 0x32) (same refl) (either (eqb reg 0x34) (same refl)
+      (either (eqb reg 0x35) (same refl) (either (eqb reg 0x37) (same refl) (either (eqb reg 0x38) (same refl) (either (eqb reg 0x3A) (same refl)
+      (either (eqb reg 0x3B) (same refl) (either (eqb reg 0x80) (same refl) (either (eqb reg 0x9A) (same refl) (either (eqb reg 0x9B) (same refl)
+      (either (eqb reg 0x9C) (same refl) (either (eqb reg 0x9D) (same refl) (either (eqb reg 0x9F) (same refl) (same refl)))))))))))))))))))
+
+  block-set : (t n : ℕ) → Keeps c (set-block c t n)
+  unfolding set-block
+  block-set t n =
+      either (leb n t) (same refl)
+      (either (c .transfer .running) (same refl)
+      (either (c .buffering .decen || not (eqb (c .counts .tcc) 0)) (same refl) (same refl)))
+
+  window-set : (o w : ℕ) → Keeps c (set-window c o w)
+  unfolding set-window
+  window-set o w = either (not (window-fits o w)) (same refl) (either (c .transfer .running) (same refl) (same refl))
+
+  expected-set : (a : Address) → Keeps c (set-expected c a)
+  unfolding set-expected
+  expected-set a = either (not (valid a)) (same refl) (either (c .buffering .decen) (same refl) (same refl))
+
+  packet-read : (i : ℕ) → Keeps c (packet-byte c i)
+  unfolding packet-byte
+  packet-read i = either (ltb 11 i) (same refl) (either (not (c .packet .fpkt)) (same refl) (same refl))
+
+  commanded : (v : ℕ) → Keeps c (host-command c v)
+  unfolding host-command
+  commanded v =
+      either (ltb 255 v) (same refl)
+      (either (c .atsta .bsy || engaged c) (same refl)
+      (either (eqb v 0xA0 && c .asctrl .apkten) (same refl) (same refl)))
+
+  packet-given : (w : ℕ) → Keeps c (packet-word c w)
+  unfolding packet-word
+  packet-given w =
+      either (not (c .packet .receiving)) (same refl)
+      (either (ltb (c .packet .received) 5) (same refl)
+      (same (ap (λ (k : Counts). k .held) (ends (packet-more c w ▹ received≔ 0 ▹ receiving≔ false ▹ fpkt≔ true)))))
+
+  word-given : Keeps c (host-word c)
+  unfolding host-word
+  word-given =
+      either (not (c .transfer .running)) (same refl)
+      (either (ltb (c .transfer .position + 1) (c .window .words)) (same refl)
+      (either (ltb 1 (c .transfer .left)) (same refl)
+      (same (ap (λ (k : Counts). k .held) (ends (block-taken c ▹ running≔ false))))))
+
+  -- a step's held, as the call and the reply number have it
+  abbrev By : Plain → Step → Type 0
+  By call s = s .controller .counts .held ≡ (if eqb (s .reply .number) 0 then holding (plain call) 0 (c .counts .held) else c .counts .held)
+
+  kept-by : (call : Plain) (s : Step) → Keeps c s → holding (plain call) 0 (c .counts .held) ≡ c .counts .held → By call s
+  kept-by call s k e = k .held ∙ by (eqb (s .reply .number) 0)
+    where
+      by : (b : Bool) → c .counts .held ≡ (if b then holding (plain call) 0 (c .counts .held) else c .counts .held)
+      by true = sym e
+      by false = refl
+
+  decoder-off : (n : ℕ) → By (Write 0x0A 0x00) (write c 0x0A 0x00 n)
+  unfolding write write-ctrl0
+  decoder-off n = refl
+
+  write-held : (reg v n : ℕ) → By (Write reg v) (write c reg v n)
+  write-held reg v n = by (eqb reg 0x0A && eqb v 0x00) refl
+    where
+      by : (b : Bool) → (eqb reg 0x0A && eqb v 0x00) ≡ b → By (Write reg v) (write c reg v n)
+      by true e = rw (eqb-true reg 0x0A (left-true (eqb reg 0x0A) (eqb v 0x00) e), eqb-true v 0x00 (right-true (eqb reg 0x0A) (eqb v 0x00) e)) (decoder-off n)
+      by false e = kept-by (Write reg v) _ (written reg v n e) (rw e refl)
+
+  steps-held : (call : Plain) (ring : RingFacts) → By call (stepped c call ring)
+  unfolding stepped
+  steps-held (Write reg v) ring = write-held reg v (ring .n)
+  steps-held (Read reg) ring = kept-by (Read reg) _ (reads reg ring) refl
+  steps-held (SetBlock t) ring = kept-by (SetBlock t) _ (block-set t (ring .n)) refl
+  steps-held (SetWindow o w) ring = kept-by (SetWindow o w) _ (window-set o w) refl
+  steps-held (SetExpected a) ring = kept-by (SetExpected a) _ (expected-set a) refl
+  steps-held (PacketByte i) ring = kept-by (PacketByte i) _ (packet-read i) refl
+  steps-held Reset ring = refl
+  steps-held (Command v) ring = kept-by (Command v) _ (commanded v) refl
+  steps-held (PacketWord w) ring = kept-by (PacketWord w) _ (packet-given w) refl
+  steps-held Status ring = refl
+  steps-held Srst ring = refl
+
+-- the start that may follow leaves the counts
+concluded-counts : (s : Step) → concluded s .controller .counts ≡ s .controller .counts
+unfolding concluded
+concluded-counts s = if-case (λ (x : Step). x .controller .counts ≡ s .controller .counts) (eqb (s .reply .number) 0) _ _ (λ _. settled-counts (s .controller)) (λ _. refl)
+
+concluded-number : (s : Step) → concluded s .reply .number ≡ s .reply .number
+concluded-number s = ap (λ (r : Reply). r .number) (concluded-reply s)
+
+-- held of the row machine goes by its calls, reply numbers and results
+
+-- a sector's result is 0 where it is good
+good-result : (e h : Bool) → not (e || h) ≡ true → eqb (weight e 0x40 + weight h 0x01) 0 ≡ true
+good-result false false g = refl
+good-result false true g = absurd (false≢true g)
+good-result true h g = absurd (false≢true g)
+
+bad-result : (e h : Bool) → not (e || h) ≡ false → eqb (weight e 0x40 + weight h 0x01) 0 ≡ false
+bad-result false false g = absurd (false≢true (sym g))
+bad-result false true g = refl
+bad-result true false g = refl
+bad-result true true g = refl
+
+counted-held : (c : Controller) (j : Judgement)
+    → (counted c j .reply .number ≡ 0) × (counted c j .controller .counts .held ≡ (if eqb (counted c j .reply .result) 0 then c .counts .held else true))
+unfolding counted
+counted-held c j =
+    if-case
+    (λ (s : Step). (s .reply .number ≡ 0) × (s .controller .counts .held ≡ (if eqb (s .reply .result) 0 then c .counts .held else true)))
+    (good j) _ _
+    (λ g. (refl, sym (if-true (eqb (tarsta-byte j) 0) (c .counts .held) true (good-result (j .staerr) (j .hcei) g))))
+    (λ g. (refl, sym (if-false (eqb (tarsta-byte j) 0) (c .counts .held) true (bad-result (j .staerr) (j .hcei) g))))
+
+sector-held : (x : List ℕ) (s : Row)
+    → row-step (sector x) s .controller .counts .held ≡ held-after (sector x) (row-answer (sector x) s) (s .controller .counts .held)
+unfolding row-answer row-step
+sector-held x s = by (sector-number x s) (eqb (sector-number x s) 0) refl
+  where
+    by : (k : ℕ) (e : Bool) → eqb k 0 ≡ e
+        → (if e then record { controller = sector-step x s .controller; blocks = s .blocks; row = grown (s .controller) x (s .row) } else s) .controller .counts .held
+        ≡ held-after (sector x) (if e then answered (sector-step x s) else replied k 0) (s .controller .counts .held)
+    by k true e =
+        let j = received (s .controller .expected) x .judgement in
+        let r = counted (s .controller) j in
+        let c = counted-held (s .controller) j in
+        ap (λ (k : Counts). k .held) (concluded-counts r)
+        ∙ c .1
+        ∙ sym (if-true (eqb (r .reply .number) 0) (if eqb (r .reply .result) 0 then s .controller .counts .held else true) (s .controller .counts .held) (rw (c .0) refl))
+        ∙ ap (λ (q : Reply). if eqb (q .number) 0 then (if eqb (q .result) 0 then s .controller .counts .held else true) else s .controller .counts .held) (sym (concluded-reply r))
+    by k false e = sym (if-false (eqb k 0) (holding (sector x) 0 (s .controller .counts .held)) (s .controller .counts .held) e)
+
+same-held : (n : ℕ) (h : Bool) → h ≡ (if eqb n 0 then h else h)
+same-held n h = by (eqb n 0)
+  where
+    by : (e : Bool) → h ≡ (if e then h else h)
+    by true = refl
+    by false = refl
+
+row-held : (call : Call) (s : Row) → row-step call s .controller .counts .held ≡ held-after call (row-answer call s) (s .controller .counts .held)
+unfolding row-answer row-step
+row-held (plain c) s =
+    let r = stepped (s .controller) c (row-facts s) in
+    ap (λ (k : Counts). k .held) (concluded-counts r)
+    ∙ steps-held (s .controller) c (row-facts s)
+    ∙ ap (λ (k : ℕ). if eqb k 0 then holding (plain c) 0 (s .controller .counts .held) else s .controller .counts .held) (sym (concluded-number r))
+row-held (sector x) s = sector-held x s
+row-held look s = refl
+row-held word s =
+    ap (λ (k : Counts). k .held) (concluded-counts (host-word (s .controller))) ∙ word-given (s .controller) .held ∙ same-held (number (word-answered (word-step s) s)) (s .controller .counts .held)
+
+-- The answers of a valid row
+
+if-either : (a b : Bool) (x y : List ℕ) → (if not a && not b then x else y) ≡ (if a || b then y else x)
+if-either true b x y = refl
+if-either false true x y = refl
+if-either false false x y = refl
+
+pub look-shows : (s : Row) → Valid s → row-answer look s ≡ seen (window-of (shown s))
+unfolding row-answer
+look-shows s h =
+    ap seen
+    (if-either (eqb (s .controller .counts .tcc) 0) (eqb (s .controller .window .words) 0) _ _
+    ∙ ap (λ (k : ℕ). if eqb k 0 || eqb (s .controller .window .words) 0 then [] else take (2 * s .controller .window .words) (drop (s .controller .window .offset) (getD (s .row) 0 [])))
+    (sym (h .good)))
+
+tcc-shows : (s : Row) → Valid s → row-answer (plain (Read 0x9D)) s ≡ replied 0 (length (s .row))
+unfolding row-answer stepped read concluded
+tcc-shows s h = ap (replied 0) (sym (h .good))
+
+bufc-shows : (s : Row) → Valid s → row-answer (plain (Read 0x9B)) s ≡ replied 0 (length (s .row) + weight (s .controller .counts .held) 1)
+unfolding row-answer stepped read concluded
+bufc-shows s h =
+    ap (replied 0)
+    (h .invariant .consistent .buffered ∙ ap (λ (k : ℕ). k + weight (s .controller .counts .held) 1) (sym (h .good)))
+
+row-shows : (c : Call) (s : Row) → Valid s → Shows c (row-answer c s) (shown s) (s .controller .counts .held)
+row-shows c s h =
+    record {
+      looked = λ e. rw e (look-shows s h);
+      tcc = λ e. rw e (tcc-shows s h);
+      bufc = λ e. rw e (bufc-shows s h);
+    }
+
+row-run : (cs : List Call) (s : Row) (b : Book) (held : Bool) → Valid s → shown s ≡ b → s .controller .counts .held ≡ held → Shows-run the-row cs s b held
+row-run [] s b held h e f = tt
+row-run (c ∷ cs) s b held h e f =
+    let k = kept c s h in (
+      subst (λ (x : Bool). Shows c (row-answer c s) b x) f (subst (λ (x : Book). Shows c (row-answer c s) x (s .controller .counts .held)) e (row-shows c s h)),
+      row-run cs (row-step c s) (feed c (number (row-answer c s)) b) (held-after c (row-answer c s) held) (k .valid)
+          (k .book ∙ ap (feed c (number (row-answer c s))) e) (row-held c s ∙ ap (held-after c (row-answer c s)) f),
+    )
+
+pub row-shown : Shown the-row
+row-shown n low high x size cs = row-run cs _ _ false (valid-opened n low) refl refl
+
+-- A machine that simulates one shows the same
+
+held-over : (c : Call) (a b : Answer) (held : Bool) → masked c a ≡ masked c b → held-after c a held ≡ held-after c b held
+held-over (plain c) a b held e = ap (λ (n : ℕ). if eqb n 0 then holding (plain c) 0 held else held) (same-number (plain c) a b e)
+held-over (sector x) a b held e = ap (λ (r : Answer). held-after (sector x) r held) e
+held-over look a b held e = ap (λ (r : Answer). held-after look r held) e
+held-over word a b held e = ap (λ (r : Answer). held-after word r held) e
+
+shows-over : (c : Call) (a r : Answer) (b : Book) (held : Bool) → masked c a ≡ masked c r → Shows c r b held → Shows c a b held
+shows-over c a r b held e s =
+    record {
+      looked = λ i. subst (λ (d : Call). masked d a ≡ masked d r) i e ∙ s .looked i;
+      tcc = λ i. subst (λ (d : Call). masked d a ≡ masked d r) i e ∙ s .tcc i;
+      bufc = λ i. subst (λ (d : Call). masked d a ≡ masked d r) i e ∙ s .bufc i;
+    }
+
+module _ (M R : Machine) (S : Simulation M R) where
+  run-over : (cs : List Call) (s : M .State) (r : R .State) (b : Book) (held : Bool) → S .Related s r → Shows-run R cs r b held → Shows-run M cs s b held
+  run-over [] s r b held h f = tt
+  run-over (c ∷ cs) s r b held h f =
+      let e = S .answer c s r h in
+      let n = same-number c (M .answer c s) (R .answer c r) e in (
+        shows-over c (M .answer c s) (R .answer c r) b held e (f .0),
+        run-over cs _ _ _ _ (S .step c s r h)
+            (subst (λ (x : Bool). Shows-run R cs (R .step c r) (feed c (number (M .answer c s)) b) x) (sym (held-over c (M .answer c s) (R .answer c r) held e))
+            (subst (λ (k : ℕ). Shows-run R cs (R .step c r) (feed c k b) (held-after c (R .answer c r) held)) (sym n) (f .1))),
+      )
+
+  pub shown-over : Shown R → Shown M
+  shown-over d n low high x size cs = run-over cs _ _ _ false (S .opened n low high x size) (d n low high x size cs)
+
+pub chip-shown : Shown the-chip
+chip-shown = shown-over the-chip the-row chip-simulates row-shown

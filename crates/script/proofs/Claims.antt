@@ -1,18 +1,23 @@
 -- Before an accepted opening a line leaves the bench closed and shows zeros; after one it runs the machine of demand 3. Assumes nothing.
-use Prim.Native.Nat.{ℕ}
+use Prim.Native.Nat.{ℕ, _≤_}
 use mathlib.Core.Path.{_≡_, refl, sym, ap, _∙_}
-use mathlib.Core.Bool.{Bool, true, false, not, true≢false}
+use mathlib.Core.Bool.{Bool, true, false, not, _&&_, true≢false}
 use mathlib.Core.List.{List, []}
 use lib.Dec.{ltb, eqb}
-use lib.ListN.{length}
-use borrow.Author.Tests.{eq-eqb}
+use lib.ListN.{length, length-append}
 use Rattle.laws.specs.Choice.{if_then_else_}
-use Rattle.laws.proofs.Choice.{if-true, if-false}
-use Rattle.sector.specs.Calls.{seal-reply, seal-sector}
+use Rattle.laws.proofs.Choice.{if-true, if-false, not-of-true}
+use Rattle.sector.specs.Address.{valid}
+use Rattle.sector.specs.Calls.{seal-sector}
 use Rattle.sector.specs.declared.Address.{Address}
+use Rattle.sector.proofs.Sealed.{count}
+use Rattle.controller.specs.Decoder.{admission}
+use Rattle.ring.specs.Place.{full}
 use Rattle.outcomes.specs.Machine.{sector, number}
 use Rattle.chip.specs.Calls as calls
-use Rattle.chip.specs.Chip.{opened}
+use Rattle.chip.specs.Chip.{opened, ring-fits}
+use Rattle.chip.specs.Sound.{sound}
+use Rattle.chip.specs.declared.Told.{Told}
 use Rattle.chip.specs.Machine.{over, of-word, chip-answer, chip-step}
 use Rattle.chip.specs.declared.Chip.{Chip}
 use Rattle.chip.specs.declared.Word.{Word}
@@ -20,8 +25,10 @@ use Rattle.chip.specs.declared.Word.the-variants.{Handed, Refused}
 use Rattle.syntax.specs.Grammar.{form, onward, bare, several, named, parse}
 use Rattle.syntax.specs.declared.line.Line.{Line}
 use Rattle.syntax.specs.declared.line.Line.the-variants.{Malformed, Open, Plain, Look, Take, Disc}
-use Rattle.script.specs.Answers.{Answered, unchanged, answered, refused, of-told, opening, unsealed, given, disc, word, called, closed, shown}
-use Rattle.script.specs.Bench.{started, reply, count}
+use Rattle.script.specs.Answers.{Answered, unchanged, answered, refused, of-told, opening, unsealed, disc-number, brought, disc, word, called, closed, shown}
+use Rattle.script.specs.Bench as bench
+use Rattle.script.specs.Bench.{started, reply}
+use Rattle.script.proofs.Answering.{number-chip}
 use Rattle.script.specs.Claims.{Closed, ClosedClaim, out-of, Runs, MachineClaim}
 use Rattle.script.specs.declared.Bench.{Bench}
 use Rattle.script.specs.declared.call.Answer.{Answer}
@@ -57,7 +64,7 @@ closed-claim b m s line k e =
     let r : a ≡ refused false (b .chip) (a .number)
     = q ∙ closed-refuses (b .chip) (parse line) (sym (ap (λ (x : Answer). x .opened) q) ∙ e) ∙ ap (λ (x : Answer). refused false (b .chip) (x .number)) (sym q) in
     let h : a .chip ≡ started .chip = ap (λ (x : Answer). x .chip) r ∙ k .1 in
-    ((e, h), ap (λ (x : Answer). shown x (count b)) r ∙ ap (λ (c : Chip). shown (refused false c (a .number)) (count b)) (k .1))
+    ((e, h), ap (λ (x : Answer). shown x (bench.count b)) r ∙ ap (λ (c : Chip). shown (refused false c (a .number)) (bench.count b)) (k .1))
 
 -- the claim's premises are met: a bench that was started is closed, and an empty line does not open it
 pub closed-started : Closed started
@@ -76,17 +83,50 @@ word-out : (w : Word) → calls.word-value w ≡ out-of (of-word w)
 word-out (Handed v) = refl
 word-out (Refused k) = refl
 
-sector-line :
-    (c : Chip) (ring s : List ℕ) (a : Address) (byte : ℕ) → length s ≡ 2352 → ltb 255 byte ≡ false → seal-reply (unsealed byte) a .number ≡ 0
-    → called c ring s (Disc a byte)
-    ≡ record {
-      answer = of-told (calls.sector-told c ring (seal-sector (unsealed byte) a));
-      memory = calls.sector-ring c ring (seal-sector (unsealed byte) a);
-      sector = seal-sector (unsealed byte) a;
-    }
-unfolding called disc given
-sector-line c ring s a byte size low sealed =
-    if-false (not (eqb (length s) 2352)) _ _ (ap not (eq-eqb _ _ size)) ∙ if-false (ltb 255 byte) _ _ low ∙ if-true (eqb (seal-reply (unsealed byte) a .number) 0) _ _ (eq-eqb _ _ sealed)
+-- a sector line in order, by the chip's number: the machine is given the sector that would be sealed, and answers by the same number
+module _ (c : Chip) (ring s : List ℕ) (a : Address) (byte : ℕ) (size : length s ≡ 2352) (low : byte ≤ 255) (v : valid a ≡ true) where
+  made : List ℕ
+  made = seal-sector (unsealed byte) a
+
+  made-size : length made ≡ 2352
+  unfolding made unsealed
+  made-size = count a (unsealed byte) (simp length-append) v
+
+  its-number : disc-number c ring s a byte ≡ calls.sector-number c ring made
+  unfolding calls.sector-number
+  its-number =
+      sym (number-chip c ring s a byte size low (valid a) refl (not-of-true _ v))
+      ∙ ap (λ (n : ℕ). if not (sound c && ring-fits c ring && eqb n 2352) then 1 else admission (c .controller) (full (c .place))) (size ∙ sym made-size)
+
+  by-number : ℕ → Answered
+  by-number n = if eqb n 0 then brought c ring made else unchanged ring s (refused true c n)
+
+  as-told : (b : Bool) → eqb (calls.sector-number c ring made) 0 ≡ b
+      → (if b then brought c ring made else unchanged ring s (refused true c (calls.sector-number c ring made))) .answer ≡ of-told (calls.sector-told c ring made)
+  unfolding calls.sector-told
+  as-told true e = refl
+  as-told false e = ap (λ (t : Told). of-told t) (sym (if-false (eqb (calls.sector-number c ring made) 0) _ _ e))
+
+  as-stored : (b : Bool) → eqb (calls.sector-number c ring made) 0 ≡ b
+      → (if b then brought c ring made else unchanged ring s (refused true c (calls.sector-number c ring made))) .memory ≡ calls.sector-ring c ring made
+  unfolding calls.sector-ring
+  as-stored true e = refl
+  as-stored false e = sym (if-false (eqb (calls.sector-number c ring made) 0) _ _ e)
+
+  line-is : called c ring s (Disc a byte) ≡ by-number (calls.sector-number c ring made)
+  unfolding called disc by-number made
+  line-is = ap by-number its-number
+
+  line-runs : Runs c ring s (Disc a byte) (sector (seal-sector (unsealed byte) a))
+  unfolding chip-answer chip-step by-number made
+  line-runs =
+      let told = ap (λ (x : Answered). x .answer) line-is ∙ as-told _ refl in
+      record {
+        number-is = ap (λ (x : Answer). x .number) told;
+        out-is = ap (λ (x : Answer). x .out) told;
+        chip-is = ap (λ (x : Answer). x .chip) told;
+        ring-is = ap (λ (x : Answered). x .memory) line-is ∙ as-stored _ refl;
+      }
 
 pub machine-claim : MachineClaim
 unfolding called word chip-answer chip-step
@@ -95,12 +135,5 @@ machine-claim = record {
   look-runs = λ c ring s. record { number-is = refl; out-is = refl; chip-is = refl; ring-is = refl };
   word-runs = λ c ring s.
       record { number-is = word-number (calls.word-told c ring .word); out-is = word-out (calls.word-told c ring .word); chip-is = refl; ring-is = refl };
-  sector-runs = λ c ring s a byte size low sealed.
-      let e = sector-line c ring s a byte size low sealed in
-      record {
-        number-is = ap (λ (x : Answered). x .answer .number) e;
-        out-is = ap (λ (x : Answered). x .answer .out) e;
-        chip-is = ap (λ (x : Answered). x .answer .chip) e;
-        ring-is = ap (λ (x : Answered). x .memory) e;
-      };
+  sector-runs = line-runs;
 }

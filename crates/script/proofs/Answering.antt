@@ -60,15 +60,17 @@ module _ (c : Chip) (ring s : List ℕ) (a : Address) (byte : ℕ) where
       number-chip t =
           sym (if-false _ _ _ (not-of-true _ (eq-eqb _ _ h)) ∙ if-false _ _ _ (le-ltb _ _ k) ∙ if-false _ _ _ (ap not (sym e) ∙ t))
 
-  -- what holds of a line that is not refused: its buffer is a sector's, and its fill a byte
-  pub admitted : (n : ℕ) → n ≡ disc-number c ring s a byte → n ≡ 0 → (length s ≡ 2352) × (byte ≤ 255)
+  -- what holds of a line that is not refused: its buffer is a sector's, its fill a byte, and its address one
+  pub admitted : (n : ℕ) → n ≡ disc-number c ring s a byte → n ≡ 0 → (length s ≡ 2352) × ((byte ≤ 255) × (valid a ≡ true))
   unfolding disc-number
   admitted n e z =
-      if-case (λ (m : ℕ). m ≡ 0 → (length s ≡ 2352) × (byte ≤ 255)) (not (eqb (length s) 2352)) 1 _
+      if-case (λ (m : ℕ). m ≡ 0 → (length s ≡ 2352) × ((byte ≤ 255) × (valid a ≡ true))) (not (eqb (length s) 2352)) 1 _
       (λ t w. absurd (omega (arith, w)))
-      (λ t. if-case (λ (m : ℕ). m ≡ 0 → (length s ≡ 2352) × (byte ≤ 255)) (ltb 255 byte) 3 _
+      (λ t. if-case (λ (m : ℕ). m ≡ 0 → (length s ≡ 2352) × ((byte ≤ 255) × (valid a ≡ true))) (ltb 255 byte) 3 _
       (λ u w. absurd (omega (arith, w)))
-      (λ u w. (eqb-true _ _ (not-false _ t), ltb-false _ _ u)))
+      (λ u. if-case (λ (m : ℕ). m ≡ 0 → (length s ≡ 2352) × ((byte ≤ 255) × (valid a ≡ true))) (not (valid a)) 3 _
+      (λ v w. absurd (omega (arith, w)))
+      (λ v w. (eqb-true _ _ (not-false _ t), (ltb-false _ _ u, not-false _ v)))))
       (sym e ∙ z)
 
   -- refused, and accepted

@@ -1,20 +1,28 @@
--- Before an accepted opening a line leaves the bench closed and shows zeros; after one it runs the machine of demand 3. Assumes nothing.
+-- Before an accepted opening a line leaves the bench closed and shows zeros; a refused line changes no byte; an open bench runs the machine of
+-- demand 3. Assumes nothing.
 use Prim.Native.Nat.{ℕ, _≤_}
 use mathlib.Core.Path.{_≡_, refl, sym, ap, _∙_}
 use mathlib.Core.Bool.{Bool, true, false, not, _&&_, true≢false}
-use mathlib.Core.List.{List, []}
+use mathlib.Core.List.{List, [], _++_}
 use lib.Dec.{ltb, eqb}
-use lib.ListN.{length, length-append}
+use lib.ListN.{length, take, drop, length-append, take-append-drop}
+use borrow.Author.Tests.{eq-eqb, eqb-true}
 use Rattle.laws.specs.Choice.{if_then_else_}
-use Rattle.laws.proofs.Choice.{if-true, if-false, not-of-true}
+use Rattle.laws.proofs.Choice.{if-case, if-true, if-false, not-of-true}
 use Rattle.sector.specs.Address.{valid}
 use Rattle.sector.specs.Calls.{seal-sector}
 use Rattle.sector.specs.declared.Address.{Address}
 use Rattle.sector.proofs.Sealed.{count}
-use Rattle.controller.specs.Decoder.{admission}
+use Rattle.sector.specs.Judge.{good}
+use Rattle.sector.specs.declared.Judgement.{Judgement}
+use Rattle.controller.specs.Decoder.{admission, counted}
+use Rattle.controller.specs.Transfer.{concluded}
+use Rattle.controller.specs.declared.state.Controller.{Controller}
+use Rattle.controller.specs.declared.step.Step.{Step}
 use Rattle.ring.specs.Place.{full}
 use Rattle.outcomes.specs.Machine.{sector, number}
 use Rattle.chip.specs.Calls as calls
+use Rattle.chip.specs.Calls.{received-by}
 use Rattle.chip.specs.Chip.{opened, ring-fits}
 use Rattle.chip.specs.Sound.{sound}
 use Rattle.chip.specs.declared.Told.{Told}
@@ -25,11 +33,11 @@ use Rattle.chip.specs.declared.Word.the-variants.{Handed, Refused}
 use Rattle.syntax.specs.Grammar.{form, onward, bare, several, named, parse}
 use Rattle.syntax.specs.declared.line.Line.{Line}
 use Rattle.syntax.specs.declared.line.Line.the-variants.{Malformed, Open, Plain, Look, Take, Disc}
-use Rattle.script.specs.Answers.{Answered, unchanged, answered, refused, of-told, opening, unsealed, disc-number, brought, disc, word, called, closed, shown}
+use Rattle.script.specs.Answers.{Answered, unchanged, answered, refused, of-told, opening, unsealed, disc-number, brought, disc, word, called, closed, size, with-rest, shown}
 use Rattle.script.specs.Bench as bench
 use Rattle.script.specs.Bench.{started, reply}
-use Rattle.script.proofs.Answering.{number-chip}
-use Rattle.script.specs.Claims.{Closed, ClosedClaim, out-of, Runs, MachineClaim}
+use Rattle.script.proofs.Answering.{number-chip, admitted}
+use Rattle.script.specs.Claims.{Closed, ClosedClaim, RefusalClaim, out-of, Runs, MachineClaim}
 use Rattle.script.specs.declared.Bench.{Bench}
 use Rattle.script.specs.declared.call.Answer.{Answer}
 
@@ -127,6 +135,64 @@ module _ (c : Chip) (ring s : List ℕ) (a : Address) (byte : ℕ) (size : lengt
         chip-is = ap (λ (x : Answer). x .chip) told;
         ring-is = ap (λ (x : Answered). x .memory) line-is ∙ as-stored _ refl;
       }
+
+-- a sector that is counted is answered 0
+either-zero : (b : Bool) (x y : Step) → x .reply .number ≡ 0 → y .reply .number ≡ 0 → (if b then x else y) .reply .number ≡ 0
+either-zero true x y p q = p
+either-zero false x y p q = q
+
+counted-zero : (k : Controller) (j : Judgement) → counted k j .reply .number ≡ 0
+unfolding counted
+counted-zero k j = either-zero (good j) _ _ refl refl
+
+concluded-zero : (t : Step) → t .reply .number ≡ 0 → concluded t .reply .number ≡ 0
+unfolding concluded
+concluded-zero t e = either-zero (eqb (t .reply .number) 0) _ t e e
+
+told-zero : (c : Chip) (ring x : List ℕ) → calls.sector-number c ring x ≡ 0 → calls.sector-told c ring x .reply .number ≡ 0
+unfolding calls.sector-told
+told-zero c ring x z =
+    ap (λ (t : Told). t .reply .number) (if-true (eqb (calls.sector-number c ring x) 0) _ _ (eq-eqb _ _ z))
+    ∙ concluded-zero _ (counted-zero (c .controller) (received-by c x .judgement))
+
+-- an answer that is a refusal leaves these bytes
+Kept : List ℕ → List ℕ → Answered → Type 0
+Kept m s a = (a .answer .number ≡ 0 → ⊥) → (a .memory ≡ m) × (a .sector ≡ s)
+
+disc-kept : (c : Chip) (ring s : List ℕ) (a : Address) (byte : ℕ) → Kept ring s (disc c ring s a byte)
+unfolding Kept disc made
+disc-kept c ring s a byte =
+    if-case (Kept ring s) (eqb (disc-number c ring s a byte) 0) (brought c ring (seal-sector (unsealed byte) a)) (unchanged ring s (refused true c (disc-number c ring s a byte)))
+    (λ e k.
+    let z = eqb-true _ _ e in
+    let h = admitted c ring s a byte _ refl z in
+    absurd (k (told-zero c ring (seal-sector (unsealed byte) a) (sym (its-number c ring s a byte (h .0) (h .1 .0) (h .1 .1)) ∙ z))))
+    (λ e k. (refl, refl))
+
+called-kept : (c : Chip) (ring s : List ℕ) (line : Line) → Kept ring s (called c ring s line)
+unfolding Kept called
+called-kept c ring s Malformed k = (refl, refl)
+called-kept c ring s (Open n) k = (refl, refl)
+called-kept c ring s (Plain call) k = (refl, refl)
+called-kept c ring s Look k = (refl, refl)
+called-kept c ring s Take k = (refl, refl)
+called-kept c ring s (Disc a byte) k = disc-kept c ring s a byte k
+
+pub refusal-claim : RefusalClaim
+unfolding Kept answered
+refusal-claim b m s line =
+    let ring = take (size (b .chip)) m in
+    let rest = drop (size (b .chip)) m in
+    if-case (Kept m s) (not (b .opened)) (unchanged m s (closed (b .chip) (parse line))) (with-rest (called (b .chip) ring s (parse line)) rest)
+    (λ e k. (refl, refl))
+    (λ e k.
+    let h = called-kept (b .chip) ring s (parse line) k in
+    (ap (λ (l : List ℕ). l ++ rest) (h .0) ∙ take-append-drop (size (b .chip)) m, h .1))
+
+-- the claim's premise is met: an empty line is refused
+pub refused-empty : (m s : List ℕ) → reply started m s [] .answer .number ≡ 2
+unfolding answered closed parse named several bare form onward
+refused-empty m s = refl
 
 pub machine-claim : MachineClaim
 unfolding called word chip-answer chip-step

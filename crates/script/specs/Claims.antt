@@ -1,4 +1,5 @@
--- What holds before an accepted opening (paper 01, "Bench cases": 5 and nothing else); and that after one the bench runs the machine of demand 3.
+-- What holds before an accepted opening (paper 01, "Bench cases": 5 and nothing else); that a refusal changes no byte; and that an open bench runs the
+-- machine of demand 3.
 -- Assumes nothing.
 use Prim.Native.Nat.{ℕ, _≤_}
 use mathlib.Core.Path.{_≡_}
@@ -33,6 +34,12 @@ ClosedClaim =
     (b : Bench) (m s line : List ℕ) → Closed b → reply b m s line .answer .opened ≡ false
     → Closed (after (reply b m s line .answer) (count b))
     × (shown (reply b m s line .answer) (count b) ≡ zeros (count b) (reply b m s line .answer .number))
+
+-- a refused line changes no byte, of the memory or of the sector buffer
+abbrev pub RefusalClaim : Type 0
+RefusalClaim =
+    (b : Bench) (m s line : List ℕ) → (reply b m s line .answer .number ≡ 0 → ⊥)
+    → (reply b m s line .memory ≡ m) × (reply b m s line .sector ≡ s)
 
 -- what is printed of an answer as `out`
 abbrev pub out-of : Answer → ℕ

@@ -36,7 +36,7 @@ cast-unsealed c =
     let if1 = c .before .if1 in
     let number = c .before .before .disc-number in
     let h = admitted (a .chip) (a .ring .now) (a .sector .now) (a .address) (a .byte) (number .result) (number .ensures) (if1 .left) in
-    record { fits = omega (arith, h .1) }
+    record { fits = omega (arith, h .1 .0) }
 
 unsealed-requires : tie.Need-unsealed-requires
 unsealed-requires c κs =

@@ -28,7 +28,7 @@ int main(void)
 {
     static const char text[] = "no block shall count that was not read and checked";
     uint8_t sector[CDROM_SECTOR_BYTES] = {0};
-    uint8_t *user = sector + 16;
+    uint8_t *user = sector + CDROM_USER_OFFSET;
     memcpy(user, text, sizeof text);
 
     show("seal at 00:60:00, no address", cdrom_seal(sector, sizeof sector, 0, 60, 0), CDROM_BAD_ADDRESS);

@@ -2,16 +2,16 @@
 //! byte of the answers, of the ring's memory and of the sector buffer.
 
 use cdrom::ANSWER_ROOM;
-use ecma130::{Address, EDC_START, SECTOR_BYTES, USER_START};
+use ecma130::SECTOR_BYTES;
 use model::{parse, random_script, sealed, Bench, Call, Random, BLOCK_BYTES};
 
 const MEMORY_BYTES: usize = 25 * BLOCK_BYTES;
 /// Answers 1 and changes nothing.
 const REFUSED: &[u8] = b"call=open ring=0";
 
-/// A ring that takes sectors.
-const DECODING: &[u8] = b"call=open ring=25\ncall=write reg=154 value=32\ncall=write reg=156 value=96\n\
-    call=write reg=10 value=128\n";
+/// What makes an opened ring take sectors.
+const SWITCHES: &[u8] = b"call=write reg=154 value=32\ncall=write reg=156 value=96\ncall=write reg=10 value=128\n";
+const OPEN: &[u8] = b"call=open ring=25\n";
 const SECTOR: &[u8] = b"call=sector min=0 sec=2 frame=0 fill=7\n";
 const REST: &[u8] = b"call=look\ncall=word\ncall=status\ncall=read reg=157\n";
 
@@ -39,7 +39,8 @@ impl Lent {
         cdrom::bench(&mut self.memory, &mut self.sector, text, &mut self.out)
     }
 
-    /// What the model leaves, line by line.
+    /// What the model leaves, line by line: an accepted sector line leaves its
+    /// sector in the buffer, and no other line a byte.
     fn run_by_model(&mut self, text: &[u8]) -> usize {
         let mut bench = Bench::over(std::mem::take(&mut self.memory));
         let mut size = 0;
@@ -51,8 +52,11 @@ impl Lent {
             let answer = match parse(line) {
                 Some(Call::Sector { .. }) if opened && self.sector.len() != SECTOR_BYTES => bench.line(REFUSED),
                 Some(Call::Sector { address, fill }) if opened => {
-                    self.sector = made(address, fill).unwrap_or(std::mem::take(&mut self.sector));
-                    bench.line(line)
+                    let answer = bench.line(line);
+                    if answer.contains(" answer=0 ") {
+                        self.sector = sealed(address, fill).expect("an accepted sector can be sealed");
+                    }
+                    answer
                 }
                 _ => bench.line(line),
             };
@@ -67,14 +71,6 @@ impl Lent {
 
 fn ended_lines(text: &[u8]) -> impl Iterator<Item = &[u8]> {
     text.split_inclusive(|&byte| byte == b'\n').filter_map(|line| line.strip_suffix(b"\n"))
-}
-
-/// What a sector line leaves in the buffer: with a bad address it stays
-/// unsealed, with a bad fill it is not made.
-fn made(address: Address, fill: u16) -> Option<Vec<u8>> {
-    let mut unsealed = vec![0; SECTOR_BYTES];
-    unsealed[USER_START..EDC_START].fill(u8::try_from(fill).ok()?);
-    Some(sealed(address, fill).unwrap_or(unsealed))
 }
 
 /// Runs a text on both, compares all that is left, and hands it on.
@@ -145,7 +141,7 @@ fn stale_bytes_change_no_answer() {
 /// Cut at every byte: a line whose newline is not there is not run.
 #[test]
 fn a_line_without_its_newline_is_not_run() {
-    let text = [DECODING, SECTOR, REST].concat();
+    let text = [OPEN, SWITCHES, SECTOR, REST].concat();
     let start = Lent::stale(3, &text);
     for end in 0..=text.len() {
         let (left, size) = hold(&start, &text[..end]);
@@ -165,7 +161,7 @@ fn an_empty_text_changes_nothing() {
 /// behind the answers is changed.
 #[test]
 fn room_for_some_of_the_answers() {
-    let text = [DECODING, SECTOR, REST, DECODING, SECTOR, &random_script(301, 20)].concat();
+    let text = [OPEN, SWITCHES, SECTOR, REST, OPEN, SWITCHES, SECTOR, &random_script(301, 20)].concat();
     let mut start = Lent::stale(5, &text);
     let all = start.out.clone();
     for room in 0..=all.len().min(10 * ANSWER_ROOM) {
@@ -181,7 +177,7 @@ fn room_for_some_of_the_answers() {
 
 #[test]
 fn memory_of_any_length() {
-    let text = [DECODING, SECTOR, REST].concat();
+    let text = [OPEN, SWITCHES, SECTOR, REST].concat();
     let mut start = Lent::stale(6, &text);
     let memory = Random::new(7).bytes(MEMORY_BYTES + BLOCK_BYTES);
     for length in [0, 1, 2351, 2352, 2559, 2560, 7680, MEMORY_BYTES - 1, MEMORY_BYTES, MEMORY_BYTES + 1, memory.len()] {
@@ -197,9 +193,36 @@ fn memory_of_any_length() {
     }
 }
 
+/// After the same lines with and without a refused one at their end, the stale
+/// bytes that are left and those that were written are the same.
+#[test]
+fn a_refused_sector_line_changes_no_byte() {
+    let opened = b"call=open ring=3\n".to_vec();
+    let decoding = [&opened, SWITCHES].concat();
+    let held = [&decoding[..], b"call=sector min=0 sec=9 frame=9 fill=8\n"].concat();
+    let full = [&decoding[..], SECTOR, b"call=sector min=0 sec=2 frame=1 fill=9\n"].concat();
+    let cases = [
+        (&decoding, &b"call=sector min=0 sec=2 frame=0 fill=256\n"[..], "answer=3"),
+        (&decoding, b"call=sector min=0 sec=60 frame=0 fill=5\n", "answer=3"),
+        (&full, b"call=sector min=100 sec=2 frame=0 fill=5\n", "answer=3"),
+        (&vec![], b"call=sector min=0 sec=2 frame=0 fill=5\n", "answer=5"),
+        (&opened, b"call=sector min=0 sec=2 frame=0 fill=5\n", "answer=7"),
+        (&held, b"call=sector min=0 sec=2 frame=0 fill=5\n", "answer=8"),
+        (&full, b"call=sector min=0 sec=2 frame=2 fill=5\n", "answer=9"),
+    ];
+    for (before, line, number) in cases {
+        let text = [before, line].concat();
+        let start = Lent::stale(12, &text);
+        let (without, _) = hold(&start, before);
+        let (with, size) = hold(&start, &text);
+        assert_eq!(answers_of(&with, size).last().map(String::as_str), Some(number));
+        assert!(with.memory == without.memory && with.sector == without.sector, "{number}");
+    }
+}
+
 #[test]
 fn a_sector_buffer_of_another_length() {
-    let text = [DECODING, SECTOR, REST].concat();
+    let text = [OPEN, SWITCHES, SECTOR, REST].concat();
     for length in [0, 1, 12, 2064, 2351, 2353, 4704] {
         let sector = Random::new(8).bytes(length);
         let start = Lent { sector: sector.clone(), ..Lent::stale(9, &text) };
@@ -229,6 +252,6 @@ fn any_bytes() {
         }
         hold(&Lent::stale(seed, &text), &text);
     }
-    let long = [DECODING, &vec![b'0'; 1 << 20], b"\n", SECTOR].concat();
+    let long = [OPEN, SWITCHES, &vec![b'0'; 1 << 20], b"\n", SECTOR].concat();
     hold(&Lent::stale(10, &long), &long);
 }

@@ -1,13 +1,13 @@
 //! The proved bench program at the edges of its input and output: where lines
-//! and reads end, lines of any length and of any bytes, and files that cannot
-//! be read or written. What it answers is compared with the model.
+//! and reads end, lines of any length and of any bytes, files that cannot be
+//! read or written, and its arguments. What it answers is compared with the model.
 
 use drive::{feed, find, finish};
 use model::{Bench, Random};
 use std::fs::File;
 use std::io::{BufRead, BufReader, Write};
 use std::os::fd::OwnedFd;
-use std::os::unix::net::UnixDatagram;
+use std::os::unix::net::{UnixDatagram, UnixStream};
 use std::path::Path;
 use std::process::{ChildStdin, Command, Output, Stdio};
 use std::sync::mpsc::channel;
@@ -225,6 +225,74 @@ fn an_output_that_nobody_reads_ends_the_program() {
     flood(child.stdin.take().expect("a pipe"));
     drop(child.stdout.take());
     finish(child, LIMIT).expect("the program ends");
+}
+
+/// A read that fails in the middle of a line: the socket has no byte more, and
+/// is not to be waited for. What came of the line is not run.
+#[test]
+fn a_line_cut_by_a_failed_read_is_not_run() {
+    let (mut near, far) = UnixStream::pair().expect("a pair of sockets");
+    far.set_nonblocking(true).expect("a socket that does not wait");
+    near.write_all(b"call=open ring=25\ncall=block number=1").expect("room for two lines");
+    let child = command(OwnedFd::from(far), Stdio::piped()).spawn().expect("the program starts");
+    let output = finish(child, LIMIT).expect("the program ends");
+    assert_eq!(String::from_utf8_lossy(&output.stdout), answers(b"call=open ring=25\n"));
+    assert_eq!(String::from_utf8_lossy(&output.stderr), "read: Resource temporarily unavailable\n");
+    drop(near);
+}
+
+#[test]
+fn a_directory_is_no_input() {
+    let folder = File::open("/").expect("the root is there");
+    let child = command(folder, Stdio::piped()).spawn().expect("the program starts");
+    let output = finish(child, LIMIT).expect("the program ends");
+    assert_eq!(output.stdout, b"");
+    assert_eq!(String::from_utf8_lossy(&output.stderr), "read: Is a directory\n");
+}
+
+/// The program with these arguments. Its standard input stays open and is not to
+/// be waited for.
+fn with_arguments(words: &[&str]) -> Output {
+    let mut child = command(Stdio::piped(), Stdio::piped()).args(words).spawn().expect("the program starts");
+    let stdin = child.stdin.take();
+    let output = finish(child, LIMIT).expect("the program ends");
+    drop(stdin);
+    output
+}
+
+#[test]
+fn a_file_is_run() {
+    let path = Path::new(env!("CARGO_TARGET_TMPDIR")).join("calls");
+    let many = mixed().repeat(100);
+    for input in [&b""[..], b"call=status", &mixed(), &many] {
+        std::fs::write(&path, input).expect("a file can be written");
+        hold(&with_arguments(&[path.to_str().expect("a name of text")]), input);
+    }
+}
+
+#[test]
+fn arguments_are_answered_or_refused() {
+    let output = with_arguments(&["--help"]);
+    let usage = String::from_utf8_lossy(&output.stdout);
+    assert!(usage.starts_with("usage: bench [FILE]\n"), "{usage}");
+    assert_eq!(output.stderr, b"");
+    for words in [&["-x"][..], &["--helps"], &["-"], &["a", "b"], &["--help", "a"]] {
+        let refused = with_arguments(words);
+        assert_eq!(refused.stdout, b"", "{words:?}");
+        assert_eq!(String::from_utf8_lossy(&refused.stderr), usage, "{words:?}");
+    }
+    let long = "x".repeat(5000);
+    let told = [
+        ("no/such", "no/such: No such file or directory\n"),
+        ("", ": No such file or directory\n"),
+        ("/", "read: Is a directory\n"),
+        (&long, "argument: File name too long\n"),
+    ];
+    for (word, expected) in told {
+        let output = with_arguments(&[word]);
+        assert_eq!(output.stdout, b"", "{word}");
+        assert_eq!(String::from_utf8_lossy(&output.stderr), expected);
+    }
 }
 
 /// The program as a shell starts it with a stream closed, and what it tells.

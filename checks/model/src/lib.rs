@@ -1,6 +1,6 @@
 //! The buffer board of paper 01 once more, as plainly as it can be said, and
-//! the bench program's line format on top of it. Written from the paper
-//! alone, to be compared line by line with the bench program.
+//! the bench program's line format on top of it. Written from the paper and the
+//! readings of docs/DECISIONS.md, to be compared line by line with the bench program.
 
 mod bench;
 mod book;

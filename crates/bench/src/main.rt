@@ -1,6 +1,7 @@
-// The bench: lines of calls on standard input, a line of answer for each on standard output. What a line means, does and prints, and
+// The bench: lines of calls on standard input or in a file, a line of answer for each on standard output. What a line means, does and prints, and
 // that each is run once and in order, is the library's, `script`; this program reads and writes. Its contracts keep the buffers' bounds.
-use libc::STDIN_FILENO;
+mod args;
+
 use libc::STDOUT_FILENO;
 use numbers::least_length;
 use script::Bench;
@@ -90,24 +91,36 @@ fn keep(input: &mut [u8], rest: usize, end: usize) -> usize
     size
 }
 
-// Reads once, behind the bytes that are kept, and gives the place after what came: `kept` itself where the input has ended or a read fails.
-fn read_more(input: &mut [u8], kept: usize) -> usize
+// What a read brought: the place after the bytes, and whether it failed. Where the input has ended no byte came.
+struct Came {
+    end: usize,
+    failed: bool,
+}
+
+// Reads once, behind the bytes that are kept, and tells where that fails.
+fn read_more(fd: i32, input: &mut [u8], kept: usize) -> Came
     requires { ⌜ kept ≤ length (now input) ⌝ }
-    ensures { λ r. ⌜ kept ≤ r ⌝ }
-    ensures { λ r. ⌜ r ≤ length (now (input .exit)) ⌝ }
+    ensures { λ r. ⌜ kept ≤ r .end ⌝ }
+    ensures { λ r. ⌜ r .end ≤ length (now (input .exit)) ⌝ }
 {
-    let got = libc::read(STDIN_FILENO, &mut input[kept..]);
+    let got = libc::read(fd, &mut input[kept..]);
     if got < 0 {
         os::fail(b"read");
     }
     if got <= 0 {
-        return kept;
+        return Came {
+            end: kept,
+            failed: got < 0,
+        };
     }
-    kept + io::count(got, &input[kept..])
+    Came {
+        end: kept + io::count(got, &input[kept..]),
+        failed: false,
+    }
 }
 
-// The bench between two reads: the bytes of an unended line at the front of the input buffer, whether to read on, and whether the
-// output has failed.
+// The bench between two reads: the bytes of an unended line at the front of the input buffer, whether to read on, and whether a read or
+// a write has failed.
 struct Round {
     bench: Bench,
     kept: usize,
@@ -117,6 +130,7 @@ struct Round {
 
 // Reads once, runs the lines that ended and writes their answers.
 fn read_once(
+    fd: i32,
     round: Round,
     input: &mut [u8],
     memory: &mut [u8],
@@ -129,13 +143,14 @@ fn read_once(
 {
     let bench = round.bench;
     let kept = round.kept;
-    let end = read_more(input, kept);
+    let came = read_more(fd, input, kept);
+    let end = came.end;
     if end == kept {
         return Round {
             bench: bench,
             kept: kept,
             goes_on: false,
-            failed: false,
+            failed: came.failed,
         };
     }
     let turn = run_lines(bench, &input[..end], memory, sector, output);
@@ -151,6 +166,7 @@ fn read_once(
 
 // A proved loop has to end, and nothing says that the input does: the reads are counted down from a number that no run uses up.
 fn read_all(
+    fd: i32,
     start: Bench,
     input: &mut [u8],
     memory: &mut [u8],
@@ -168,13 +184,13 @@ fn read_all(
     };
     let mut left = u64::MAX;
     while left > 0 && round.goes_on {
-        round = read_once(round, input, memory, sector, output);
+        round = read_once(fd, round, input, memory, sector, output);
         left -= 1;
     }
     round
 }
 
-// A last line may have no end.
+// A last line may have no end. What came of a line before a read failed is not one.
 fn last(round: Round, input: &[u8], memory: &mut [u8], sector: &mut [u8], output: &mut [u8])
     requires { ⌜ round .kept ≤ length (now input) ⌝ }
     requires { ⌜ room ≤ length (now output) ⌝ }
@@ -188,7 +204,20 @@ fn last(round: Round, input: &[u8], memory: &mut [u8], sector: &mut [u8], output
     put(output, ran.size);
 }
 
+// Runs the lines of an input to its end, in lent buffers.
+fn run_all(fd: i32, input: &mut [u8], memory: &mut [u8], sector: &mut [u8], output: &mut [u8])
+    requires { ⌜ 81 ≤ length (now input) ⌝ }
+    requires { ⌜ room ≤ length (now output) ⌝ }
+{
+    let end = read_all(fd, Bench::start(), input, memory, sector, output);
+    last(end, input, memory, sector, output);
+}
+
 fn main() {
+    let fd = args::input();
+    if fd < 0 {
+        return;
+    }
     let mut sector_space = [0; 2352];
     let mut ring_space = [0; 64000];
     let mut input_space = io::large_buffer();
@@ -197,6 +226,5 @@ fn main() {
     let memory: &mut [u8] = &mut ring_space;
     let input: &mut [u8] = &mut input_space;
     let output: &mut [u8] = &mut output_space;
-    let end = read_all(Bench::start(), input, memory, sector, output);
-    last(end, input, memory, sector, output);
+    run_all(fd, input, memory, sector, output);
 }

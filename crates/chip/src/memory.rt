@@ -19,8 +19,9 @@ impl Chip {
         self.sound() & (ring.len() == place.n as usize * 2560)
     }
 
-    // The reply number of a sector, before a byte of it is moved.
-    fn sector_number(self, ring: &[u8], sector: &[u8]) -> u8
+    // The reply number of a sector, before a byte of it is moved: of the sector only its length is looked at.
+    // Ruled out: one that admits a sector at the ring's stop, and one that answers 7 or 8 where a length is wrong.
+    pub fn sector_number(self, ring: &[u8], sector: &[u8]) -> u8
         ensures { λ r. ⌜ r ≡ sector-number self (now (ring .entry)) (now (sector .entry)) ⌝ }
     {
         if !(self.ready(ring) & (sector.len() == 2352)) {

@@ -1,23 +1,24 @@
--- What the bench answers, by cases of the word handed over, of a sector line and of the bench. Assumes nothing.
+-- What the bench answers, by cases of the word handed over and of a sector line. Assumes nothing.
 use mathlib.Core.Path.{_≡_, sym, ap, ap₂, _∙_}
-use mathlib.Core.Bool.{true}
+use mathlib.Core.Bool.{Bool, true, false, not}
 use mathlib.Core.List.{List, _++_, append-assoc}
 use Prim.Native.Nat.{ℕ, _+_, _-_, _≤_, _<_}
 use native.Mathlib.Omega.{arith}
+use lib.Dec.{ltb, eqb}
 use lib.ListN.{length, take, drop, replicate, length-replicate, length-append, length-take, length-drop}
 use lib.Seq.{take-at, take-append-add, length-take-le}
 use borrow.Rule.Slice.PartMut.{putMid, midOf}
-use borrow.Author.Tests.{eq-eqb, ne-eqb, lt-ltb, le-ltb}
+use borrow.Author.Tests.{eq-eqb, ne-eqb, eqb-true, lt-ltb, le-ltb, ltb-false, not-false}
 use Rattle.laws.proofs.Parts.{put-rest, mid-rest, put-part}
-use Rattle.laws.proofs.Choice.{if-true, if-false, not-of-true, not-of-false}
-use Rattle.sector.specs.Calls.{seal-reply, seal-sector}
+use Rattle.laws.proofs.Choice.{if-case, if-true, if-false, not-of-true, not-of-false}
+use Rattle.sector.specs.Address.{valid}
+use Rattle.sector.specs.Calls.{seal-sector}
 use Rattle.sector.specs.declared.Address.{Address}
-use Rattle.reply.specs.declared.Reply.{Reply}
 use Rattle.chip.specs.Calls as calls
 use Rattle.chip.specs.declared.Chip.{Chip}
 use Rattle.chip.specs.declared.WordTold.{WordTold}
 use Rattle.chip.specs.declared.Word.the-variants.{Handed, Refused}
-use Rattle.script.specs.Answers.{Answered, unchanged, refused, of-told, word, word-refused, unsealed, given, disc}
+use Rattle.script.specs.Answers.{Answered, unchanged, refused, of-told, word, word-refused, unsealed, disc-number, brought, disc}
 use Rattle.script.specs.declared.call.Answer.{Answer}
 
 -- the host word, by whether one is handed over
@@ -37,32 +38,55 @@ module _ (c : Chip) (ring : List ℕ) (t : WordTold) (e : t ≡ calls.word-told 
       ap (λ v. record { opened = true; chip = t .chip; number = calls.word-number v; out = calls.word-value v }) (sym q)
       ∙ ap of-word e
 
--- a sector line, by the tests in their order: the buffer's size, the fill, the address
+-- a sector line: its number, by the tests in their order: the buffer's size, the fill, the address, the chip
 module _ (c : Chip) (ring s : List ℕ) (a : Address) (byte : ℕ) where
-  pub disc-size : (length s ≡ 2352 → ⊥) → unchanged ring s (refused true c 1) ≡ disc c ring s a byte
-  unfolding disc
-  disc-size h = sym (if-true _ _ _ (not-of-false _ (ne-eqb _ _ h)))
+  pub number-size : (length s ≡ 2352 → ⊥) → 1 ≡ disc-number c ring s a byte
+  unfolding disc-number
+  number-size h = sym (if-true _ _ _ (not-of-false _ (ne-eqb _ _ h)))
 
   module _ (h : length s ≡ 2352) where
-    pub disc-fill : 255 < byte → unchanged ring s (refused true c 3) ≡ disc c ring s a byte
+    pub number-fill : 255 < byte → 3 ≡ disc-number c ring s a byte
+    unfolding disc-number
+    number-fill k = sym (if-false _ _ _ (not-of-true _ (eq-eqb _ _ h)) ∙ if-true _ _ _ (lt-ltb _ _ k))
+
+    module _ (k : byte ≤ 255) (v : Bool) (e : v ≡ valid a) where
+      pub number-address : not v ≡ true → 3 ≡ disc-number c ring s a byte
+      unfolding disc-number
+      number-address f =
+          sym (if-false _ _ _ (not-of-true _ (eq-eqb _ _ h)) ∙ if-false _ _ _ (le-ltb _ _ k) ∙ if-true _ _ _ (ap not (sym e) ∙ f))
+
+      pub number-chip : not v ≡ false → calls.sector-number c ring s ≡ disc-number c ring s a byte
+      unfolding disc-number
+      number-chip t =
+          sym (if-false _ _ _ (not-of-true _ (eq-eqb _ _ h)) ∙ if-false _ _ _ (le-ltb _ _ k) ∙ if-false _ _ _ (ap not (sym e) ∙ t))
+
+  -- what holds of a line that is not refused: its buffer is a sector's, its fill a byte, and its address one
+  pub admitted : (n : ℕ) → n ≡ disc-number c ring s a byte → n ≡ 0 → (length s ≡ 2352) × ((byte ≤ 255) × (valid a ≡ true))
+  unfolding disc-number
+  admitted n e z =
+      if-case (λ (m : ℕ). m ≡ 0 → (length s ≡ 2352) × ((byte ≤ 255) × (valid a ≡ true))) (not (eqb (length s) 2352)) 1 _
+      (λ t w. absurd (omega (arith, w)))
+      (λ t. if-case (λ (m : ℕ). m ≡ 0 → (length s ≡ 2352) × ((byte ≤ 255) × (valid a ≡ true))) (ltb 255 byte) 3 _
+      (λ u w. absurd (omega (arith, w)))
+      (λ u. if-case (λ (m : ℕ). m ≡ 0 → (length s ≡ 2352) × ((byte ≤ 255) × (valid a ≡ true))) (not (valid a)) 3 _
+      (λ v w. absurd (omega (arith, w)))
+      (λ v w. (eqb-true _ _ (not-false _ t), (ltb-false _ _ u, not-false _ v)))))
+      (sym e ∙ z)
+
+  -- refused, and accepted
+  module _ (n : ℕ) (e : n ≡ disc-number c ring s a byte) where
+    pub disc-not : (n ≡ 0 → ⊥) → unchanged ring s (refused true c n) ≡ disc c ring s a byte
     unfolding disc
-    disc-fill k = sym (if-false _ _ _ (not-of-true _ (eq-eqb _ _ h)) ∙ if-true _ _ _ (lt-ltb _ _ k))
+    disc-not z =
+        ap (λ (m : ℕ). unchanged ring s (refused true c m)) e
+        ∙ sym (if-false _ _ _ (ne-eqb _ _ (λ (q : disc-number c ring s a byte ≡ 0). z (e ∙ q))))
 
-    module _ (k : byte ≤ 255) (l s′ : List ℕ) (r : Reply) (e : l ≡ unsealed byte) (q : r ≡ seal-reply l a) (p : s′ ≡ seal-sector l a) where
-      given-is : given c ring r s′ ≡ disc c ring s a byte
+    module _ (z : n ≡ 0) (l s′ : List ℕ) (u : l ≡ unsealed byte) (p : s′ ≡ seal-sector l a) where
+      pub disc-done : brought c ring s′ ≡ disc c ring s a byte
       unfolding disc
-      given-is =
-          ap₂ (given c ring) (q ∙ ap (λ (x : List ℕ). seal-reply x a) e) (p ∙ ap (λ (x : List ℕ). seal-sector x a) e)
-          ∙ sym (if-false _ _ _ (not-of-true _ (eq-eqb _ _ h)) ∙ if-false _ _ _ (le-ltb _ _ k))
-
-      pub disc-not : (r .number ≡ 0 → ⊥) → unchanged ring s′ (refused true c (r .number)) ≡ disc c ring s a byte
-      unfolding given
-      disc-not z = sym (if-false _ _ _ (ne-eqb _ _ z)) ∙ given-is
-
-      pub disc-done : r .number ≡ 0
-          → record { answer = of-told (calls.sector-told c ring s′); memory = calls.sector-ring c ring s′; sector = s′ } ≡ disc c ring s a byte
-      unfolding given
-      disc-done z = sym (if-true _ _ _ (eq-eqb _ _ z)) ∙ given-is
+      disc-done =
+          ap (brought c ring) (p ∙ ap (λ (x : List ℕ). seal-sector x a) u)
+          ∙ sym (if-true _ _ _ (eq-eqb _ _ (sym e ∙ z)))
 
 -- the three parts of a bench sector, put one behind the other
 pub laid : (s a b z : List ℕ) (byte : ℕ) → a ≡ replicate 16 0 → b ≡ replicate 2048 byte → z ≡ replicate 288 0 →

@@ -1,18 +1,31 @@
--- Before an accepted opening a line leaves the bench closed and shows zeros; after one it runs the machine of demand 3. Assumes nothing.
-use Prim.Native.Nat.{ℕ}
+-- Before an accepted opening a line leaves the bench closed and shows zeros; a refused line changes no byte; an open bench runs the machine of
+-- demand 3. Assumes nothing.
+use Prim.Native.Nat.{ℕ, _≤_}
 use mathlib.Core.Path.{_≡_, refl, sym, ap, _∙_}
-use mathlib.Core.Bool.{Bool, true, false, not, true≢false}
-use mathlib.Core.List.{List, []}
+use mathlib.Core.Bool.{Bool, true, false, not, _&&_, true≢false}
+use mathlib.Core.List.{List, [], _++_}
 use lib.Dec.{ltb, eqb}
-use lib.ListN.{length}
-use borrow.Author.Tests.{eq-eqb}
+use lib.ListN.{length, take, drop, length-append, take-append-drop}
+use borrow.Author.Tests.{eq-eqb, eqb-true}
 use Rattle.laws.specs.Choice.{if_then_else_}
-use Rattle.laws.proofs.Choice.{if-true, if-false}
-use Rattle.sector.specs.Calls.{seal-reply, seal-sector}
+use Rattle.laws.proofs.Choice.{if-case, if-true, if-false, not-of-true}
+use Rattle.sector.specs.Address.{valid}
+use Rattle.sector.specs.Calls.{seal-sector}
 use Rattle.sector.specs.declared.Address.{Address}
+use Rattle.sector.proofs.Sealed.{count}
+use Rattle.sector.specs.Judge.{good}
+use Rattle.sector.specs.declared.Judgement.{Judgement}
+use Rattle.controller.specs.Decoder.{admission, counted}
+use Rattle.controller.specs.Transfer.{concluded}
+use Rattle.controller.specs.declared.state.Controller.{Controller}
+use Rattle.controller.specs.declared.step.Step.{Step}
+use Rattle.ring.specs.Place.{full}
 use Rattle.outcomes.specs.Machine.{sector, number}
 use Rattle.chip.specs.Calls as calls
-use Rattle.chip.specs.Chip.{opened}
+use Rattle.chip.specs.Calls.{received-by}
+use Rattle.chip.specs.Chip.{opened, ring-fits}
+use Rattle.chip.specs.Sound.{sound}
+use Rattle.chip.specs.declared.Told.{Told}
 use Rattle.chip.specs.Machine.{over, of-word, chip-answer, chip-step}
 use Rattle.chip.specs.declared.Chip.{Chip}
 use Rattle.chip.specs.declared.Word.{Word}
@@ -20,9 +33,11 @@ use Rattle.chip.specs.declared.Word.the-variants.{Handed, Refused}
 use Rattle.syntax.specs.Grammar.{form, onward, bare, several, named, parse}
 use Rattle.syntax.specs.declared.line.Line.{Line}
 use Rattle.syntax.specs.declared.line.Line.the-variants.{Malformed, Open, Plain, Look, Take, Disc}
-use Rattle.script.specs.Answers.{Answered, unchanged, answered, refused, of-told, opening, unsealed, given, disc, word, called, closed, shown}
-use Rattle.script.specs.Bench.{started, reply, count}
-use Rattle.script.specs.Claims.{Closed, ClosedClaim, out-of, Runs, MachineClaim}
+use Rattle.script.specs.Answers.{Answered, unchanged, answered, refused, of-told, opening, unsealed, disc-number, brought, disc, word, called, closed, size, with-rest, shown}
+use Rattle.script.specs.Bench as bench
+use Rattle.script.specs.Bench.{started, reply}
+use Rattle.script.proofs.Answering.{number-chip, admitted}
+use Rattle.script.specs.Claims.{Closed, ClosedClaim, RefusalClaim, out-of, Runs, MachineClaim}
 use Rattle.script.specs.declared.Bench.{Bench}
 use Rattle.script.specs.declared.call.Answer.{Answer}
 
@@ -57,7 +72,7 @@ closed-claim b m s line k e =
     let r : a ≡ refused false (b .chip) (a .number)
     = q ∙ closed-refuses (b .chip) (parse line) (sym (ap (λ (x : Answer). x .opened) q) ∙ e) ∙ ap (λ (x : Answer). refused false (b .chip) (x .number)) (sym q) in
     let h : a .chip ≡ started .chip = ap (λ (x : Answer). x .chip) r ∙ k .1 in
-    ((e, h), ap (λ (x : Answer). shown x (count b)) r ∙ ap (λ (c : Chip). shown (refused false c (a .number)) (count b)) (k .1))
+    ((e, h), ap (λ (x : Answer). shown x (bench.count b)) r ∙ ap (λ (c : Chip). shown (refused false c (a .number)) (bench.count b)) (k .1))
 
 -- the claim's premises are met: a bench that was started is closed, and an empty line does not open it
 pub closed-started : Closed started
@@ -76,17 +91,108 @@ word-out : (w : Word) → calls.word-value w ≡ out-of (of-word w)
 word-out (Handed v) = refl
 word-out (Refused k) = refl
 
-sector-line :
-    (c : Chip) (ring s : List ℕ) (a : Address) (byte : ℕ) → length s ≡ 2352 → ltb 255 byte ≡ false → seal-reply (unsealed byte) a .number ≡ 0
-    → called c ring s (Disc a byte)
-    ≡ record {
-      answer = of-told (calls.sector-told c ring (seal-sector (unsealed byte) a));
-      memory = calls.sector-ring c ring (seal-sector (unsealed byte) a);
-      sector = seal-sector (unsealed byte) a;
-    }
-unfolding called disc given
-sector-line c ring s a byte size low sealed =
-    if-false (not (eqb (length s) 2352)) _ _ (ap not (eq-eqb _ _ size)) ∙ if-false (ltb 255 byte) _ _ low ∙ if-true (eqb (seal-reply (unsealed byte) a .number) 0) _ _ (eq-eqb _ _ sealed)
+-- a sector line in order, by the chip's number: the machine is given the sector that would be sealed, and answers by the same number
+module _ (c : Chip) (ring s : List ℕ) (a : Address) (byte : ℕ) (size : length s ≡ 2352) (low : byte ≤ 255) (v : valid a ≡ true) where
+  made : List ℕ
+  made = seal-sector (unsealed byte) a
+
+  made-size : length made ≡ 2352
+  unfolding made unsealed
+  made-size = count a (unsealed byte) (simp length-append) v
+
+  its-number : disc-number c ring s a byte ≡ calls.sector-number c ring made
+  unfolding calls.sector-number
+  its-number =
+      sym (number-chip c ring s a byte size low (valid a) refl (not-of-true _ v))
+      ∙ ap (λ (n : ℕ). if not (sound c && ring-fits c ring && eqb n 2352) then 1 else admission (c .controller) (full (c .place))) (size ∙ sym made-size)
+
+  by-number : ℕ → Answered
+  by-number n = if eqb n 0 then brought c ring made else unchanged ring s (refused true c n)
+
+  as-told : (b : Bool) → eqb (calls.sector-number c ring made) 0 ≡ b
+      → (if b then brought c ring made else unchanged ring s (refused true c (calls.sector-number c ring made))) .answer ≡ of-told (calls.sector-told c ring made)
+  unfolding calls.sector-told
+  as-told true e = refl
+  as-told false e = ap (λ (t : Told). of-told t) (sym (if-false (eqb (calls.sector-number c ring made) 0) _ _ e))
+
+  as-stored : (b : Bool) → eqb (calls.sector-number c ring made) 0 ≡ b
+      → (if b then brought c ring made else unchanged ring s (refused true c (calls.sector-number c ring made))) .memory ≡ calls.sector-ring c ring made
+  unfolding calls.sector-ring
+  as-stored true e = refl
+  as-stored false e = sym (if-false (eqb (calls.sector-number c ring made) 0) _ _ e)
+
+  line-is : called c ring s (Disc a byte) ≡ by-number (calls.sector-number c ring made)
+  unfolding called disc by-number made
+  line-is = ap by-number its-number
+
+  line-runs : Runs c ring s (Disc a byte) (sector (seal-sector (unsealed byte) a))
+  unfolding chip-answer chip-step by-number made
+  line-runs =
+      let told = ap (λ (x : Answered). x .answer) line-is ∙ as-told _ refl in
+      record {
+        number-is = ap (λ (x : Answer). x .number) told;
+        out-is = ap (λ (x : Answer). x .out) told;
+        chip-is = ap (λ (x : Answer). x .chip) told;
+        ring-is = ap (λ (x : Answered). x .memory) line-is ∙ as-stored _ refl;
+      }
+
+-- a sector that is counted is answered 0
+either-zero : (b : Bool) (x y : Step) → x .reply .number ≡ 0 → y .reply .number ≡ 0 → (if b then x else y) .reply .number ≡ 0
+either-zero true x y p q = p
+either-zero false x y p q = q
+
+counted-zero : (k : Controller) (j : Judgement) → counted k j .reply .number ≡ 0
+unfolding counted
+counted-zero k j = either-zero (good j) _ _ refl refl
+
+concluded-zero : (t : Step) → t .reply .number ≡ 0 → concluded t .reply .number ≡ 0
+unfolding concluded
+concluded-zero t e = either-zero (eqb (t .reply .number) 0) _ t e e
+
+told-zero : (c : Chip) (ring x : List ℕ) → calls.sector-number c ring x ≡ 0 → calls.sector-told c ring x .reply .number ≡ 0
+unfolding calls.sector-told
+told-zero c ring x z =
+    ap (λ (t : Told). t .reply .number) (if-true (eqb (calls.sector-number c ring x) 0) _ _ (eq-eqb _ _ z))
+    ∙ concluded-zero _ (counted-zero (c .controller) (received-by c x .judgement))
+
+-- an answer that is a refusal leaves these bytes
+Kept : List ℕ → List ℕ → Answered → Type 0
+Kept m s a = (a .answer .number ≡ 0 → ⊥) → (a .memory ≡ m) × (a .sector ≡ s)
+
+disc-kept : (c : Chip) (ring s : List ℕ) (a : Address) (byte : ℕ) → Kept ring s (disc c ring s a byte)
+unfolding Kept disc made
+disc-kept c ring s a byte =
+    if-case (Kept ring s) (eqb (disc-number c ring s a byte) 0) (brought c ring (seal-sector (unsealed byte) a)) (unchanged ring s (refused true c (disc-number c ring s a byte)))
+    (λ e k.
+    let z = eqb-true _ _ e in
+    let h = admitted c ring s a byte _ refl z in
+    absurd (k (told-zero c ring (seal-sector (unsealed byte) a) (sym (its-number c ring s a byte (h .0) (h .1 .0) (h .1 .1)) ∙ z))))
+    (λ e k. (refl, refl))
+
+called-kept : (c : Chip) (ring s : List ℕ) (line : Line) → Kept ring s (called c ring s line)
+unfolding Kept called
+called-kept c ring s Malformed k = (refl, refl)
+called-kept c ring s (Open n) k = (refl, refl)
+called-kept c ring s (Plain call) k = (refl, refl)
+called-kept c ring s Look k = (refl, refl)
+called-kept c ring s Take k = (refl, refl)
+called-kept c ring s (Disc a byte) k = disc-kept c ring s a byte k
+
+pub refusal-claim : RefusalClaim
+unfolding Kept answered
+refusal-claim b m s line =
+    let ring = take (size (b .chip)) m in
+    let rest = drop (size (b .chip)) m in
+    if-case (Kept m s) (not (b .opened)) (unchanged m s (closed (b .chip) (parse line))) (with-rest (called (b .chip) ring s (parse line)) rest)
+    (λ e k. (refl, refl))
+    (λ e k.
+    let h = called-kept (b .chip) ring s (parse line) k in
+    (ap (λ (l : List ℕ). l ++ rest) (h .0) ∙ take-append-drop (size (b .chip)) m, h .1))
+
+-- the claim's premise is met: an empty line is refused
+pub refused-empty : (m s : List ℕ) → reply started m s [] .answer .number ≡ 2
+unfolding answered closed parse named several bare form onward
+refused-empty m s = refl
 
 pub machine-claim : MachineClaim
 unfolding called word chip-answer chip-step
@@ -95,12 +201,5 @@ machine-claim = record {
   look-runs = λ c ring s. record { number-is = refl; out-is = refl; chip-is = refl; ring-is = refl };
   word-runs = λ c ring s.
       record { number-is = word-number (calls.word-told c ring .word); out-is = word-out (calls.word-told c ring .word); chip-is = refl; ring-is = refl };
-  sector-runs = λ c ring s a byte size low sealed.
-      let e = sector-line c ring s a byte size low sealed in
-      record {
-        number-is = ap (λ (x : Answered). x .answer .number) e;
-        out-is = ap (λ (x : Answered). x .answer .out) e;
-        chip-is = ap (λ (x : Answered). x .answer .chip) e;
-        ring-is = ap (λ (x : Answered). x .memory) e;
-      };
+  sector-runs = line-runs;
 }

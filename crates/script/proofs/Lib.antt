@@ -1,4 +1,4 @@
--- Laws of the bench's definitions, and its claim.
+-- Laws of the bench's definitions, and its claims.
 pub mod Answering
 pub mod Running
 pub mod Feeding

@@ -5,9 +5,9 @@ use mathlib.Core.List.{List, _++_}
 use lib.Dec.{ltb, eqb}
 use lib.ListN.{length, take, drop, replicate}
 use Rattle.laws.specs.Choice.{if_then_else_}
-use Rattle.sector.specs.Calls.{seal-reply, seal-sector}
+use Rattle.sector.specs.Address.{valid}
+use Rattle.sector.specs.Calls.{seal-sector}
 use Rattle.sector.specs.declared.Address.{Address}
-use Rattle.reply.specs.declared.Reply.{Reply}
 use Rattle.chip.specs.Chip.{opened}
 use Rattle.chip.specs.Calls as calls
 use Rattle.chip.specs.declared.Chip.{Chip}
@@ -65,20 +65,26 @@ pub record Answered : Type 0 where
 abbrev pub unchanged : List ℕ → List ℕ → Answer → Answered
 unchanged m s a = record { answer = a; memory = m; sector = s }
 
--- the bytes that sealing left, and its reply: a refusal of the address is the answer, and a sealed sector is given to the chip
-unfoldable pub given : Chip → List ℕ → Reply → List ℕ → Answered
-given c ring r s =
-    if eqb (r .number) 0 then record { answer = of-told (calls.sector-told c ring s); memory = calls.sector-ring c ring s; sector = s }
-    else unchanged ring s (refused true c (r .number))
+-- the reply number of a sector line, before a byte is written: 1 for a buffer of another size, 3 for the fill or the address, then the chip's own,
+-- which looks at no more of the buffer than its length
+unfoldable pub disc-number : Chip → List ℕ → List ℕ → Address → ℕ → ℕ
+disc-number c ring s a byte =
+    if not (eqb (length s) 2352) then 1
+    else if ltb 255 byte then 3
+    else if not (valid a) then 3
+    else calls.sector-number c ring s
 
--- a sector line: a buffer of another size is 1, a fill above 255 is 3
+-- a sector that is given to the chip, and stays in the buffer
+abbrev pub brought : Chip → List ℕ → List ℕ → Answered
+brought c ring s = record { answer = of-told (calls.sector-told c ring s); memory = calls.sector-ring c ring s; sector = s }
+
+-- a sector line: the sector is sealed in the buffer and brought, and a refusal leaves memory and buffer as they were
 unfoldable pub disc : Chip → List ℕ → List ℕ → Address → ℕ → Answered
 disc c ring s a byte =
-    if not (eqb (length s) 2352) then unchanged ring s (refused true c 1)
-    else if ltb 255 byte then unchanged ring s (refused true c 3)
-    else given c ring (seal-reply (unsealed byte) a) (seal-sector (unsealed byte) a)
+    if eqb (disc-number c ring s a byte) 0 then brought c ring (seal-sector (unsealed byte) a)
+    else unchanged ring s (refused true c (disc-number c ring s a byte))
 
--- the calls of an open chip: only a sector changes the ring and the buffer
+-- the calls of an open chip: only an accepted sector changes the ring and the buffer
 unfoldable pub called : Chip → List ℕ → List ℕ → Line → Answered
 called c ring s Malformed = unchanged ring s (refused true c 2)
 called c ring s (Open n) = unchanged ring s (opening true c n)

@@ -1,13 +1,14 @@
--- What holds before an accepted opening (paper 01, "Bench cases": 5 and nothing else); and that after one the bench runs the machine of demand 3.
+-- What holds before an accepted opening (paper 01, "Bench cases": 5 and nothing else); that a refusal changes no byte; and that an open bench runs the
+-- machine of demand 3.
 -- Assumes nothing.
-use Prim.Native.Nat.{ℕ}
+use Prim.Native.Nat.{ℕ, _≤_}
 use mathlib.Core.Path.{_≡_}
-use mathlib.Core.Bool.{false}
+use mathlib.Core.Bool.{true, false}
 use mathlib.Core.List.{List}
-use lib.Dec.{ltb}
 use lib.ListN.{length}
 use Rattle.calls.specs.declared.Call.{Call as Lent-nothing}
-use Rattle.sector.specs.Calls.{seal-reply, seal-sector}
+use Rattle.sector.specs.Address.{valid}
+use Rattle.sector.specs.Calls.{seal-sector}
 use Rattle.sector.specs.declared.Address.{Address}
 use Rattle.outcomes.specs.Machine.{Call, plain, sector, look, word, Answer, replied, handed, refused, seen, number}
 use Rattle.chip.specs.Machine.{over, chip-answer, chip-step}
@@ -34,6 +35,12 @@ ClosedClaim =
     → Closed (after (reply b m s line .answer) (count b))
     × (shown (reply b m s line .answer) (count b) ≡ zeros (count b) (reply b m s line .answer .number))
 
+-- a refused line changes no byte, of the memory or of the sector buffer
+abbrev pub RefusalClaim : Type 0
+RefusalClaim =
+    (b : Bench) (m s line : List ℕ) → (reply b m s line .answer .number ≡ 0 → ⊥)
+    → (reply b m s line .memory ≡ m) × (reply b m s line .sector ≡ s)
+
 -- what is printed of an answer as `out`
 abbrev pub out-of : Answer → ℕ
 out-of (replied n v) = v
@@ -52,7 +59,7 @@ pub record MachineClaim : Type 0 where
   pub plain-runs : (c : Chip) (ring s : List ℕ) (call : Lent-nothing) → Runs c ring s (Plain call) (plain call)
   pub look-runs : (c : Chip) (ring s : List ℕ) → Runs c ring s Look look
   pub word-runs : (c : Chip) (ring s : List ℕ) → Runs c ring s Take word
-  -- a sector line that the chip is asked
+  -- a sector line whose buffer, fill and address are as they should be: the chip's refusals are the machine's too
   pub sector-runs : (c : Chip) (ring s : List ℕ) (a : Address) (byte : ℕ)
-      → length s ≡ 2352 → ltb 255 byte ≡ false → seal-reply (unsealed byte) a .number ≡ 0
+      → length s ≡ 2352 → byte ≤ 255 → valid a ≡ true
       → Runs c ring s (Disc a byte) (sector (seal-sector (unsealed byte) a))

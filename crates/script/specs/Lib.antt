@@ -1,4 +1,4 @@
--- The bench's definitions: what a call answers, what a line does and prints, the lines of a text, and the claim of a closed bench.
+-- The bench's definitions: what a call answers, what a line does and prints, the lines of a text, and the claims.
 pub mod Answers
 pub mod Bench
 pub mod Feed

@@ -8,7 +8,7 @@ use sector::Address;
 use syntax::line::Line;
 use syntax::print::Shown;
 ghost use mathlib.Core.Path.{_≡_};
-ghost use Rattle.script.specs.Answers.{refused, of-told, opening, word, word-refused, look, disc, called, closed, answered, shown};
+ghost use Rattle.script.specs.Answers.{refused, of-told, opening, word, word-refused, look, disc-number, disc, called, closed, answered, shown};
 
 // Whether a chip is open, the chip, the reply number and the result that is printed.
 pub struct Answer {
@@ -117,22 +117,33 @@ fn look(chip: Chip, ring: &[u8]) -> Answer
     }
 }
 
+// The reply number of a sector line, before a byte is written.
+fn disc_number(chip: Chip, ring: &[u8], sector: &[u8], address: Address, byte: u16) -> u8
+    ensures { λ r. ⌜ r ≡ disc-number chip (now (ring .entry)) (now (sector .entry)) address byte ⌝ }
+{
+    if sector.len() != 2352 {
+        return 1;
+    }
+    if byte > 255 {
+        return 3;
+    }
+    if !address.valid() {
+        return 3;
+    }
+    chip.sector_number(ring, sector)
+}
+
 // A sector sealed at the address, every user byte equal to the fill and every parity byte 0.
 fn disc(chip: Chip, ring: &mut [u8], sector: &mut [u8], address: Address, byte: u16) -> Answer
     ensures { λ r. ⌜ record { answer = r; memory = now (ring .exit); sector = now (sector .exit) }
         ≡ disc chip (now (ring .entry)) (now (sector .entry)) address byte ⌝ }
 {
-    if sector.len() != 2352 {
-        return refused(true, chip, 1);
-    }
-    if byte > 255 {
-        return refused(true, chip, 3);
+    let number = disc_number(chip, ring, sector, address, byte);
+    if number != 0 {
+        return refused(true, chip, number);
     }
     unsealed(sector, byte as u8);
-    let reply = sector::seal(sector, address);
-    if reply.number != 0 {
-        return refused(true, chip, reply.number);
-    }
+    sector::seal(sector, address);
     told(chip.sector(ring, sector))
 }
 

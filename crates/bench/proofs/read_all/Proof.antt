@@ -7,11 +7,11 @@ use Rattle.bench.proofs.read_all.Statement.{statement}
 use Rattle.bench.proofs.read_all.Tie as tie
 
 abbrev Inv-loop : tie.InvT-loop
-Inv-loop input₀ memory₀ sector₀ output₀ round₀ left₀ input memory sector output round left =
+Inv-loop fd input₀ memory₀ sector₀ output₀ round₀ left₀ input memory sector output round left =
     (round .kept ≤ 81) × (length input ≡ length input₀) × (length memory ≡ length memory₀) × (length sector ≡ length sector₀) × (length output ≡ length output₀)
 
 abbrev μ-loop : tie.MeasureT-loop
-μ-loop input₀ memory₀ sector₀ output₀ round₀ left₀ input memory sector output round left = left
+μ-loop fd input₀ memory₀ sector₀ output₀ round₀ left₀ input memory sector output round left = left
 
 loop-holds : tie.Need-loop-holds Inv-loop μ-loop
 loop-holds c = search needs

@@ -26,10 +26,10 @@ run-lines-requires c κs = search needs
 keep-requires : tie.Need-keep-requires
 keep-requires c κs =
     let m = c .before .before .before .before .before .before .before .before .before .before .before .before .before .before .before .before .read-more in
-    (rw (length-take-le (m .result) (m .last .0) (m .ensures .1)) at (c .before .before .before .before .before .before .before .before .run-lines .ensures), m .ensures .1)
+    (rw (length-take-le (m .result .end) (m .last .1 .0) (m .ensures .1)) at (c .before .before .before .before .before .before .before .before .run-lines .ensures), m .ensures .1)
 
 same-length-2 : tie.Need-same-length-2
-same-length-2 c = c .before .before .before .keep .kept .0 ∙ c .before .before .before .before .before .before .before .before .before .before .before .before .before .before .before .before .before .before .before .before .read-more .kept .0
+same-length-2 c = c .before .before .before .keep .kept .0 ∙ c .before .before .before .before .before .before .before .before .before .before .before .before .before .before .before .before .before .before .before .before .read-more .kept .1 .0
 
 same-length-3 : tie.Need-same-length-3
 same-length-3 c = search needs

@@ -1,4 +1,4 @@
--- Demand 3 of the row machine, how the chip refines it, and what follows: what counts, the letter, machines that are shut out, runs and cases.
+-- Demand 3 of the row machine, how the chip refines it, and what follows: what counts, the letter, machines that are shut out, runs, cases and numbers.
 pub mod RowSizes
 pub mod RowWords
 pub mod Simulated
@@ -11,7 +11,12 @@ pub mod Letter
 pub mod Cases
 pub mod Runs
 pub mod MetRuns
+pub mod Reached
 pub mod CasesMet
+pub mod PinsCalls
+pub mod PinsRuns
+pub mod Pins
+pub mod PinsMet
 pub mod OneBook
 pub mod WrongWord
 pub mod Stages

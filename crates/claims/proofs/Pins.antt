@@ -23,7 +23,7 @@ module _ (S : Simulation the-chip the-row) where
         twenty = twenty;
         forty = forty;
         thirty-one = thirty-one;
-        wrong-code = λ u size bytes k v behind before byte new. by-chip S (omega arith) (omega arith) refl (wrong-code u size k v bytes behind before byte new);
+        wrong-code = λ u k v h. by-chip S (omega arith) (omega arith) refl (wrong-code u k v h);
         look-headers = λ u size. by-chip S (omega arith) (omega arith) refl (look-headers u size);
         look-block = look-block;
         lent-3 = lent-3;

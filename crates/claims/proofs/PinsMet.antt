@@ -8,8 +8,9 @@ use native.Mathlib.Omega.{arith}
 use lib.Dec.{ltb, eqb}
 use lib.ListN.{length, replicate, length-replicate}
 use borrow.Author.Tests.{ne-eqb, lt-ltb}
+use Rattle.laws.proofs.Bytes.{bytes-replicate}
 use Rattle.sector.specs.Address.{next}
-use Rattle.sector.specs.Sector.{framed}
+use Rattle.sector.specs.Sector.{body, framed}
 use Rattle.controller.specs.Calls.{stepped}
 use Rattle.controller.specs.Decoder.{admission, counted}
 use Rattle.controller.specs.Fields.{_▹_, acctl≔, window≔, adcen≔, stwcen≔, bsy≔, ttc≔}
@@ -23,7 +24,7 @@ use Rattle.outcomes.specs.Row.{Row, row-step, the-row}
 use Rattle.chip.specs.Sound.{sound}
 use Rattle.chip.specs.Machine.{State, the-chip}
 use Rattle.chip.specs.declared.Chip.{Chip}
-use Rattle.claims.specs.Pins.{GivenStart, GivenLook, PinsMet}
+use Rattle.claims.specs.Pins.{GivenStart, GivenLook, GivenCode, PinsMet}
 use Rattle.claims.specs.Refinement.{Refines, Simulation}
 use Rattle.claims.specs.Runs.{write, set-window, command, disc, set-up, ok}
 use Rattle.claims.proofs.Reached.{Follows, reached}
@@ -87,6 +88,19 @@ given k atlim c fine e =
 abbrev serve : ℕ → List Call
 serve k = set-window 0 1176 ∷ write 0x18 0x48 ∷ command 0 ∷ write 0x9F k ∷ []
 
+-- of a sector of zeros the first user byte is not 1
+zeros-given : GivenCode (replicate 2352 0) 16 1
+unfolding framed body
+zeros-given =
+    record {
+      size = length-replicate {A = ℕ} 2352 0;
+      bytes = bytes-replicate 2352 0 (omega arith);
+      behind = omega arith;
+      before = omega arith;
+      byte = omega arith;
+      other = λ e. let z : _≡_ {A = ℕ} 1 0 = e in omega arith;
+    }
+
 module _ (S : Simulation the-chip the-row) (refines : Follows S) (refines-sound : (s : State) (r : Row) → Refines s r → sound (s .chip) ≡ true) where
   module _ (u : List ℕ) (size : length u ≡ 2352) where
     pins-met-by : PinsMet
@@ -106,6 +120,7 @@ module _ (S : Simulation the-chip the-row) (refines : Follows S) (refines-sound 
               reached S refines 64 (omega arith) (omega arith) (λ s. GivenStart (s .chip) 40 31)
               (calls set-up (opened 64) then many u size 64 40 (omega arith) (omega arith) then calls (write 0x9C 0x7F ∷ serve 40) _) λ s h.
               given 40 31 (s .chip) (refines-sound s _ h) (h .controller);
+          reach-code = (replicate 2352 0, 16, 1, zeros-given);
           reach-look =
               reached S refines 3 (omega arith) (omega arith) (λ s. GivenLook (s .chip) (s .ring))
               (first u size then calls (set-window 16 1024 ∷ []) _) λ s h.

@@ -30,56 +30,55 @@ use Rattle.controller.specs.Transfer.{byte-count, start, settled, concluded}
 use Rattle.controller.specs.Write as registers
 use Rattle.outcomes.specs.Machine.{look, word, replied, handed, seen}
 use Rattle.outcomes.specs.Row.{row-answer, row-step, the-row}
-use Rattle.claims.specs.Pins.{damaged}
+use Rattle.claims.specs.Pins.{GivenCode, damaged}
 use Rattle.claims.specs.Runs.{read, set-window, disc, set-up, transfer, ok, Gives}
 use Rattle.claims.proofs.Runs.{frame, calls, _then_, by-row, taken, decoded, filled, own, first, second}
 
 -- the sector sealed at 00:02:01, with a byte behind its header changed, is received as such and judged STAERR alone
-module _ (u : List ℕ) (size : length u ≡ 2352) (k v : ℕ) where
+module _ (u : List ℕ) (k v : ℕ) (h : GivenCode u k v) where
   abbrev changed : List ℕ
   changed = set (framed (frame 1) u) k v
 
   whole : length changed ≡ 2352
-  whole = length-set (framed (frame 1) u) k v ∙ length-framed (frame 1) u size
+  whole = length-set (framed (frame 1) u) k v ∙ length-framed (frame 1) u (h .size)
 
-  header : 16 ≤ k → take 3 (drop 12 changed) ≡ take 3 (drop 12 (framed (frame 1) u))
-  header behind =
+  header : take 3 (drop 12 changed) ≡ take 3 (drop 12 (framed (frame 1) u))
+  header =
       let l = framed (frame 1) u in
+      let behind = h .behind in
       let place : k ≡ 12 + (k - 12) = omega arith in
       ap (λ (i : ℕ). take 3 (drop 12 (set l i v))) place ∙ ap (take 3) (drop-set-add 12 l (k - 12) v) ∙ take-set-le 3 (drop 12 l) (k - 12) v (omega arith)
 
-  addressed : 16 ≤ k → address-holds (frame 1) changed ≡ true
+  addressed : address-holds (frame 1) changed ≡ true
   unfolding address-holds
-  addressed behind = same-of (take 3 (drop 12 changed)) (address-bytes (frame 1)) (header behind ∙ header-framed (frame 1) u)
+  addressed = same-of (take 3 (drop 12 changed)) (address-bytes (frame 1)) (header ∙ header-framed (frame 1) u)
 
   sealed-well : judge-answer (framed (frame 1) u) (frame 1) ≡ verdict false false
   sealed-well =
-      sym (judge-done (framed (frame 1) u) (frame 1) (length-framed (frame 1) u size) refl)
-      ∙ ap (λ (j : Judgement). record { number = 0; judgement = j }) (judged-own (frame 1) u size)
+      sym (judge-done (framed (frame 1) u) (frame 1) (length-framed (frame 1) u (h .size)) refl)
+      ∙ ap (λ (j : Judgement). record { number = 0; judgement = j }) (judged-own (frame 1) u (h .size))
 
-  wrong : Bytes u → k < 2068 → v < 256 → (v ≡ getD (framed (frame 1) u) k 0 → ⊥) → staerr changed ≡ true
-  wrong bytes before byte new =
+  wrong : staerr changed ≡ true
+  wrong =
       sym (judged-staerr changed (frame 1) whole refl)
-      ∙ damage-holds (framed (frame 1) u) (frame 1) k v (bytes-framed (frame 1) u refl bytes) sealed-well before byte new
+      ∙ damage-holds (framed (frame 1) u) (frame 1) k v (bytes-framed (frame 1) u refl (h .bytes)) sealed-well (h .before) (h .byte) (h .other)
 
-  pub received-damaged : Bytes u → 16 ≤ k → k < 2068 → v < 256 → (v ≡ getD (framed (frame 1) u) k 0 → ⊥)
-      → received (frame 1) (scrambled (set (framed (frame 1) u) k v)) ≡ record { bytes = set (framed (frame 1) u) k v; judgement = record { staerr = true; hcei = false } }
+  received-so : received (frame 1) (scrambled changed) ≡ record { bytes = changed; judgement = record { staerr = true; hcei = false } }
   unfolding received judgement
-  received-damaged bytes behind before byte new =
+  received-so =
       ap (λ (l : List ℕ). record { bytes = l; judgement = judgement (frame 1) l }) (scrambled-twice changed whole)
-      ∙ ap₂ (λ (e h : Bool). record { bytes = changed; judgement = record { staerr = e; hcei = not h } }) (wrong bytes before byte new) (addressed behind)
+      ∙ ap₂ (λ (e a : Bool). record { bytes = changed; judgement = record { staerr = e; hcei = not a } }) wrong addressed
 
-  pub wrong-code : Bytes u → 16 ≤ k → k < 2068 → v < 256 → (v ≡ getD (framed (frame 1) u) k 0 → ⊥)
-      → Gives the-row 3
+  pub wrong-code :
+      Gives the-row 3
       (set-up ++ disc u 0 ∷ damaged u 1 k v ∷ read 0x80 ∷ read 0x9D ∷ read 0x9B ∷ disc u 1 ∷ [])
       (ok ∷ ok ∷ ok ∷ ok ∷ replied 0 0x40 ∷ replied 0 0x40 ∷ replied 0 1 ∷ replied 0 2 ∷ replied 8 0 ∷ [])
   unfolding row-answer row-step stepped concluded settled admission counted next reading.read
-  wrong-code bytes behind before byte new =
-      by-row (first u size
-      then taken (scrambled (set (framed (frame 1) u) k v)) (set (framed (frame 1) u) k v) (filled 1 (framed (frame 0) u ∷ [])) _
-      (length-scrambled changed whole) (received-damaged bytes behind before byte new)
+  wrong-code =
+      by-row (first u (h .size)
+      then taken (scrambled changed) changed (filled 1 (framed (frame 0) u ∷ [])) _ (length-scrambled changed whole) received-so
       then calls (read 0x80 ∷ read 0x9D ∷ read 0x9B ∷ []) _
-      then decoded u size 1 _ _ (own u size 1))
+      then decoded u (h .size) 1 _ _ (own u (h .size) 1))
 
 -- looks, and one behind a block that was taken
 pub look-headers : (u : List ℕ) → length u ≡ 2352

@@ -1,7 +1,7 @@
 -- A table beside the bench cases, with the numbers written out: what no other claim would notice if code and definition had it wrong alike (paper
 -- 01, "Reply numbers", "The ring", "Host and transfers"). Starts with ATLIM 0 and their byte counts, a sector with a wrong code, looks at an offset,
 -- lent rings of a wrong size, a refused opening, and for each test of soundness a record just outside it and one just inside. A row with conditions
--- holds of every chip that meets them; PinsMet says that calls lead to such chips. Assumes nothing.
+-- holds of every chip that meets them; PinsMet says that there are such, and that calls lead to them. Assumes nothing.
 use Prim.Native.Nat.{ℕ, _+_, _*_, _<_, _≤_}
 use mathlib.Core.Path.{_≡_}
 use mathlib.Core.Bool.{true, false}
@@ -66,6 +66,15 @@ pub record GivenLook (c : Chip) (ring : List ℕ) : Type 0 where
 abbrev pub damaged : List ℕ → ℕ → ℕ → ℕ → Call
 damaged u f k v = sector (scrambled (set (framed (address 0 2 f) u) k v))
 
+-- a byte behind the header, up to the code's last, and another value for it
+pub record GivenCode (u : List ℕ) (k v : ℕ) : Type 0 where
+  pub size : length u ≡ 2352
+  pub bytes : Bytes u
+  pub behind : 16 ≤ k
+  pub before : k < 2068
+  pub byte : v < 256
+  pub other : v ≡ getD (framed (address 0 2 1) u) k 0 → ⊥
+
 -- Rings of a wrong size
 
 -- lent this ring, every call that touches it is answered 1, or by no bytes, and changes nothing
@@ -119,7 +128,7 @@ pub record Pins : Type 0 where
   -- ATLIM 31: MBC 30, and of 72,912 bytes (11CD0h) the low sixteen bits
   pub thirty-one : (c : Chip) → GivenStart c 40 31 → Starts c 30 0x1C 0xD0
   -- one changed byte, 16 to 2,067: STAERR alone is the result, 80h reads it, TCC is as before, BUFC one more, and the next sector is answered 8
-  pub wrong-code : (u : List ℕ) → length u ≡ 2352 → Bytes u → (k v : ℕ) → 16 ≤ k → k < 2068 → v < 256 → (v ≡ getD (framed (address 0 2 1) u) k 0 → ⊥)
+  pub wrong-code : (u : List ℕ) (k v : ℕ) → GivenCode u k v
       → Gives the-chip 3
       (set-up ++ disc u 0 ∷ damaged u 1 k v ∷ read 0x80 ∷ read 0x9D ∷ read 0x9B ∷ disc u 1 ∷ [])
       (ok ∷ ok ∷ ok ∷ ok ∷ replied 0 0x40 ∷ replied 0 0x40 ∷ replied 0 1 ∷ replied 0 2 ∷ replied 8 0 ∷ [])
@@ -193,4 +202,5 @@ pub record PinsMet : Type 0 where
   pub reach-20 : Reachable (λ s. GivenStart (s .chip) 20 0)
   pub reach-40 : Reachable (λ s. GivenStart (s .chip) 40 0)
   pub reach-31 : Reachable (λ s. GivenStart (s .chip) 40 31)
+  pub reach-code : (u : List ℕ) × (k : ℕ) × (v : ℕ) × GivenCode u k v
   pub reach-look : Reachable (λ s. GivenLook (s .chip) (s .ring))

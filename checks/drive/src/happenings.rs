@@ -6,7 +6,7 @@ use model::{Call, Chip, MAX_LINE_BYTES};
 use std::collections::{BTreeMap, BTreeSet};
 
 /// All that is counted.
-const NAMES: [&str; 57] = [
+const NAMES: [&str; 66] = [
     "T goes around the ring",
     "malformed line",
     "line over 80 bytes",
@@ -33,17 +33,26 @@ const NAMES: [&str; 57] = [
     "start of several blocks",
     "start with byte count (STWCEN)",
     "start cut by ATLIM",
+    "start of 17 blocks or more with ATLIM 0",
+    "start of 24 blocks with ATLIM 0",
+    "start of 16 blocks by ATLIM 16",
+    "12h read after a start of 17 blocks or more",
+    "35h above 127 read after a start",
+    "34h read after such a start",
+    "ring of 25 blocks full",
     "word handed over",
     "word handed over from an odd offset",
     "transfer of 1,024 words a block or more ended",
     "transfer ended",
     "transfer of several blocks ended",
+    "transfer of 17 blocks or more ended",
     "transfer ended with completion",
     "packet reception armed again by AUTOEN",
     "good sector",
     "bad sector",
     "sector taken in a transfer",
     "address past 99:59:74",
+    "address refused (3)",
     "sector refused, DECEN low (7)",
     "sector refused, held (8)",
     "sector refused, ring full (9)",
@@ -114,6 +123,8 @@ impl Happenings {
         self.note_write(call, step.answer, &before);
         self.note_start(call, step.answer, &before, &after);
         self.note_look(call, step.out, &before);
+        self.note_count_read(call, step.out, &before);
+        self.count_if(step.answer == 3 && matches!(call, Call::Address { .. }), "address refused (3)");
         if step.answer == 0 {
             self.note_sector(call, step.out, &before, &after);
             self.note_word(call, &before);
@@ -171,6 +182,21 @@ impl Happenings {
         self.count_if(after.stwcen, "start with byte count (STWCEN)");
         let limit = if after.atlim == 0 { 32 } else { after.atlim };
         self.count_if(after.ttc > limit && after.tcc > limit, "start cut by ATLIM");
+        let unlimited = after.ttc > 0 && after.atlim == 0;
+        self.count_if(unlimited && after.mbc >= 16, "start of 17 blocks or more with ATLIM 0");
+        self.count_if(unlimited && after.mbc == 23, "start of 24 blocks with ATLIM 0");
+        self.count_if(after.ttc > 16 && after.atlim == 16 && after.mbc == 15, "start of 16 blocks by ATLIM 16");
+    }
+
+    /// What a start left in MBC and in the byte count, while its transfer runs.
+    fn note_count_read(&mut self, call: Call, out: u16, before: &Chip) {
+        let Call::Read { reg } = call else {
+            return;
+        };
+        let counted = before.transfer.is_some() && before.ttc > 0 && before.stwcen;
+        self.count_if(counted && reg == 0x12 && out >= 16, "12h read after a start of 17 blocks or more");
+        self.count_if(counted && reg == 0x35 && out > 127, "35h above 127 read after a start");
+        self.count_if(counted && reg == 0x34 && before.reg35 > 127, "34h read after such a start");
     }
 
     fn note_word(&mut self, call: Call, before: &Chip) {
@@ -181,6 +207,7 @@ impl Happenings {
         self.count_if(last && before.window.words >= 1024, "transfer of 1,024 words a block or more ended");
         self.count_if(last, "transfer ended");
         self.count_if(last && before.mbc > 0, "transfer of several blocks ended");
+        self.count_if(last && before.mbc >= 16, "transfer of 17 blocks or more ended");
         self.count_if(last && before.ascen, "transfer ended with completion");
         self.count_if(last && before.ascen && before.autoen, "packet reception armed again by AUTOEN");
     }
@@ -208,6 +235,7 @@ impl Happenings {
         self.count_if(out == 0, "good sector");
         self.count_if(out != 0, "bad sector");
         self.count_if(before.transfer.is_some(), "sector taken in a transfer");
+        self.count_if(after.blocks == 25 && after.tcc == 24, "ring of 25 blocks full");
         self.count_if(out == 0 && after.expected == Address::new(0, 0, 0), "address past 99:59:74");
     }
 

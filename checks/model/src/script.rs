@@ -17,6 +17,9 @@ const REGISTERS: [u16; 25] = [
 const READABLE: [u16; 19] =
     [0x12, 0x18, 0x24, 0x25, 0x30, 0x31, 0x32, 0x34, 0x35, 0x37, 0x38, 0x3A, 0x3B, 0x80, 0x9A, 0x9B, 0x9C, 0x9D, 0x9F];
 
+/// Each just past the end of one range.
+const WRONG_ADDRESSES: [Address; 3] = [Address::new(100, 0, 0), Address::new(0, 60, 0), Address::new(0, 0, 75)];
+
 /// Parts of a sector whose words tell blocks apart.
 const TELLING_OFFSETS: [u16; 8] = [0, 10, 11, 12, 14, 2062, 2064, 2066];
 
@@ -92,8 +95,8 @@ impl Writer {
 
     fn opening(&mut self) -> Call {
         let ring = match self.random.below(20) {
-            0..=1 => self.random.pick(&[0, 1, 2, 26, 255, 256, 65535]),
-            2..=11 => self.random.between(3, 6),
+            0..=3 => self.random.pick(&[0, 1, 2, 26, 255, 256, 65535]),
+            4..=11 => self.random.between(3, 6),
             _ => self.random.between(3, 25),
         };
         Call::Open { ring }
@@ -147,10 +150,11 @@ impl Writer {
     }
 
     fn rare_call(&mut self) -> Call {
-        match self.random.below(8) {
+        match self.random.below(12) {
             0..=1 => self.reset(),
             2 => Call::Word,
             3 => self.drop_count(),
+            4..=6 => self.long_start(),
             _ => {
                 let opening = self.opening();
                 self.survey(opening)
@@ -215,7 +219,7 @@ impl Writer {
         let address = match self.random.below(40) {
             0..=3 => chip.expected.next(),
             4 => self.any_address(),
-            5 => self.random.pick(&[Address::new(100, 0, 0), Address::new(0, 60, 0), Address::new(0, 0, 75)]),
+            5 => self.random.pick(&WRONG_ADDRESSES),
             _ => chip.expected,
         };
         let fill = if self.random.one_in(60) { 256 } else { self.random.between(0, 255) };
@@ -325,6 +329,30 @@ impl Writer {
         self.then(write(reg, value), &[Call::Read { reg }])
     }
 
+    /// A ring filled with 17 blocks or more, a start of as many, and what it
+    /// leaves in MBC and the byte count. ATLIM cuts nothing but where it is 16.
+    fn long_start(&mut self) -> Call {
+        let ring = self.random.pick(&[25, 25, 25, 22, 18]);
+        let good = if self.random.one_in(3) { self.random.between(17, ring - 1) } else { ring - 1 };
+        let switches = self.random.pick(&[0x60, 0x60, 0xE0]) | self.random.pick(&[0, 0, 0, 16, 31]);
+        let words = self.random.pick(&[1, 2, 1024, 1100, 1176]);
+        let window = Call::Window { offset: 0, words };
+        self.plan.extend([write(0x9A, 0x20), write(0x9C, switches), window, write(0x18, 0x48), write(0x0A, 0x80)]);
+        let mut address = Address::new(0, 2, 0);
+        for _ in 0..good {
+            let fill = self.random.between(0, 255);
+            self.plan.push_back(Call::Sector { address, fill });
+            address = address.next();
+        }
+        let blocks = self.random.pick(&[17, good, 255]);
+        self.plan.extend([Call::Command { code: 0x28 }, write(0x9F, blocks), write(0x17, 0x04)]);
+        self.plan.extend([0x12, 0x35, 0x34].map(|reg| Call::Read { reg }));
+        if words > 2 {
+            self.plan.push_back(Call::Srst);
+        }
+        Call::Open { ring }
+    }
+
     /// Taking ACMEN low must take TTC along.
     fn drop_count(&mut self) -> Call {
         let rest = [write(0x9F, 7), write(0x9C, 0x20), Call::Read { reg: 0x9F }, write(0x9C, 0x60)];
@@ -413,7 +441,7 @@ impl Writer {
     }
 
     fn move_on_disc(&mut self) -> Call {
-        let address = self.any_address();
+        let address = if self.random.one_in(5) { self.random.pick(&WRONG_ADDRESSES) } else { self.any_address() };
         self.then(write(0x0A, 0x00), &[Call::Address { address }, write(0x0A, 0x80)])
     }
 

@@ -70,7 +70,7 @@ p8 c h = (
 )
 
 -- a running transfer lets no start follow
-none-due : (k : Controller) → settled (started k) ≡ started k
+pub none-due : (k : Controller) → settled (started k) ≡ started k
 unfolding settled
 none-due k =
     let d = started k in

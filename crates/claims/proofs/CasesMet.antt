@@ -1,7 +1,7 @@
 -- The conditions of the bench cases are met: a run of the row machine for each, with three blocks and sealed sectors, and so one of the chip
 -- that refines it. Assumes nothing.
-use Prim.Native.Nat.{ℕ, _*_}
-use mathlib.Core.Path.{_≡_, subst}
+use Prim.Native.Nat.{ℕ}
+use mathlib.Core.Path.{_≡_}
 use mathlib.Core.Bool.{true}
 use mathlib.Core.List.{List, [], _∷_}
 use native.Mathlib.Omega.{arith}
@@ -15,89 +15,67 @@ use Rattle.controller.specs.Host.{host-command}
 use Rattle.controller.specs.Named.{set-window, set-expected}
 use Rattle.controller.specs.Transfer.{settled, concluded}
 use Rattle.controller.specs.Write as registers
-use Rattle.outcomes.specs.Machine.{Call, plain, Answer, after}
+use Rattle.outcomes.specs.Machine.{plain}
 use Rattle.outcomes.specs.Row.{Row, row-step, the-row}
 use Rattle.ring.proofs.Represents.{represents-full}
 use Rattle.chip.specs.Sound.{sound}
 use Rattle.chip.specs.Machine.{State, the-chip}
-use Rattle.claims.specs.Cases.{Given4, Given7, Given8, Given9, Given10, Reachable, CasesMet}
+use Rattle.claims.specs.Cases.{Given4, Given7, Given8, Given9, Given10, CasesMet}
 use Rattle.claims.specs.Refinement.{Refines, Simulation}
 use Rattle.claims.specs.Runs.{write, set-window as window, command}
-use Rattle.claims.proofs.Runs.{Ran, calls, _then_, opened, frame, first, second, same-state}
+use Rattle.claims.proofs.Reached.{Follows, reached}
+use Rattle.claims.proofs.Runs.{calls, _then_, opened, frame, first, second}
 
-module _
-    (S : Simulation the-chip the-row)
-    (refines : (s : State) (r : Row) → S .Related s r → Refines s r)
-    (refines-sound : (s : State) (r : Row) → Refines s r → sound (s .chip) ≡ true)
-  where
-    -- a state of the chip that refines the row after a run
-    reached : (P : State → Type 0) {cs : List Call} {rs : List Answer} {t : Row} → Ran the-row cs (opened 3) rs t → ((s : State) → Refines s t → P s) → Reachable P
-    reached P {cs} run f =
-        let x : List ℕ = replicate 7680 0 in
-        let size : length x ≡ 3 * 2560 = length-replicate {A = ℕ} 7680 0 in
-        let s : State = the-chip .opened 3 x in
+module _ (S : Simulation the-chip the-row) (refines : Follows S) (refines-sound : (s : State) (r : Row) → Refines s r → sound (s .chip) ≡ true) where
+  module _ (u : List ℕ) (size : length u ≡ 2352) where
+    cases-met-by : CasesMet
+    unfolding row-step stepped concluded settled registers.write registers.write-bicctl registers.write-acctl registers.write-ctrl0 registers.write-asctrl registers.write-ttc host-command set-window set-expected
+    cases-met-by =
         record {
-          blocks = 3;
-          least = omega arith;
-          most = omega arith;
-          memory = x;
-          whole = size;
-          calls = cs;
-          met = f (after the-chip cs s)
-              (subst (Refines (after the-chip cs s)) (run .left)
-              (refines (after the-chip cs s) (after the-row cs (opened 3))
-              (same-state S cs s (opened 3) (S .opened 3 (omega arith) (omega arith) x size))));
-        }
-
-    module _ (u : List ℕ) (size : length u ≡ 2352) where
-      cases-met-by : CasesMet
-      unfolding row-step stepped concluded settled registers.write registers.write-bicctl registers.write-acctl registers.write-ctrl0 registers.write-asctrl registers.write-ttc host-command set-window set-expected
-      cases-met-by =
-          record {
-            reach4 =
-                reached (λ s. Given4 (s .chip)) (calls [] (opened 3)) λ s h.
-                record { sound-record = refines-sound s _ h; idle = simp (h .controller) };
-            -- DECEN is taken low
-            reach7 =
-                reached (λ s. Given7 (s .chip)) (first u size then second u size then calls (write 0x0A 0x00 ∷ []) _) λ s h.
-                record { sound-record = refines-sound s _ h; idle = simp (h .controller); decen = simp (h .controller); two = simp (h .controller) };
-            reach8 =
-                reached (λ s. Given8 (s .chip)) (first u size then second u size) λ s h.
-                record { sound-record = refines-sound s _ h; idle = simp (h .controller); acmen = simp (h .controller); two = simp (h .controller) };
-            -- a window, ADCEN and STWCEN, BSY, TTC
-            reach9 =
-                reached (λ s. Given9 (s .chip))
-                (first u size then second u size then calls (window 16 1024 ∷ write 0x18 0x48 ∷ command 0 ∷ write 0x9F 5 ∷ []) _) λ s h.
+          reach4 =
+              reached S refines 3 (omega arith) (omega arith) (λ s. Given4 (s .chip)) (calls [] (opened 3)) λ s h.
+              record { sound-record = refines-sound s _ h; idle = simp (h .controller) };
+          -- DECEN is taken low
+          reach7 =
+              reached S refines 3 (omega arith) (omega arith) (λ s. Given7 (s .chip)) (first u size then second u size then calls (write 0x0A 0x00 ∷ []) _) λ s h.
+              record { sound-record = refines-sound s _ h; idle = simp (h .controller); decen = simp (h .controller); two = simp (h .controller) };
+          reach8 =
+              reached S refines 3 (omega arith) (omega arith) (λ s. Given8 (s .chip)) (first u size then second u size) λ s h.
+              record { sound-record = refines-sound s _ h; idle = simp (h .controller); acmen = simp (h .controller); two = simp (h .controller) };
+          -- a window, ADCEN and STWCEN, BSY, TTC
+          reach9 =
+              reached S refines 3 (omega arith) (omega arith) (λ s. Given9 (s .chip))
+              (first u size then second u size then calls (window 16 1024 ∷ write 0x18 0x48 ∷ command 0 ∷ write 0x9F 5 ∷ []) _) λ s h.
+              record {
+                sound-record = refines-sound s _ h;
+                idle = simp (h .controller);
+                unreceiving = simp (h .controller);
+                acmen = simp (h .controller);
+                adcen = simp (h .controller);
+                bsy = simp (h .controller);
+                two = simp (h .controller);
+                five = simp (h .controller);
+                atlim = simp (h .controller);
+                words = simp (h .controller);
+                stwcen = simp (h .controller);
+              };
+          -- the expected address is set before DECEN; a sector sealed at it is good
+          reach10 =
+              reached S refines 3 (omega arith) (omega arith) (λ s. (x : List ℕ) × Given10 (s .chip) (s .ring) x)
+              (calls (write 0x9A 0x20 ∷ write 0x9C 0x60 ∷ plain (SetExpected (frame 74)) ∷ write 0x0A 0x80 ∷ []) (opened 3)) λ s h. (
+                sealed (frame 74) u,
                 record {
                   sound-record = refines-sound s _ h;
-                  idle = simp (h .controller);
-                  unreceiving = simp (h .controller);
-                  acmen = simp (h .controller);
-                  adcen = simp (h .controller);
-                  bsy = simp (h .controller);
-                  two = simp (h .controller);
-                  five = simp (h .controller);
-                  atlim = simp (h .controller);
-                  words = simp (h .controller);
-                  stwcen = simp (h .controller);
-                };
-            -- the expected address is set before DECEN; a sector sealed at it is good
-            reach10 =
-                reached (λ s. (x : List ℕ) × Given10 (s .chip) (s .ring) x)
-                (calls (write 0x9A 0x20 ∷ write 0x9C 0x60 ∷ plain (SetExpected (frame 74)) ∷ write 0x0A 0x80 ∷ []) (opened 3)) λ s h. (
-                  sealed (frame 74) u,
-                  record {
-                    sound-record = refines-sound s _ h;
-                    whole = h .represents .whole;
-                    decen = simp (h .controller);
-                    unheld = simp (h .controller);
-                    room = simp (h .controller, represents-full (h .represents)) (simp (h .blocks));
-                    expected = simp (h .controller);
-                    size = length-sealed (frame 74) u size;
-                    fine = simp (received-sealed (frame 74) (frame 74) u size, judged-own (frame 74) u size);
-                  },
-                );
-          }
+                  whole = h .represents .whole;
+                  decen = simp (h .controller);
+                  unheld = simp (h .controller);
+                  room = simp (h .controller, represents-full (h .represents)) (simp (h .blocks));
+                  expected = simp (h .controller);
+                  size = length-sealed (frame 74) u size;
+                  fine = simp (received-sealed (frame 74) (frame 74) u size, judged-own (frame 74) u size);
+                },
+              );
+        }
 
-    pub cases-met : CasesMet
-    cases-met = cases-met-by (replicate 2352 0) (length-replicate {A = ℕ} 2352 0)
+  pub cases-met : CasesMet
+  cases-met = cases-met-by (replicate 2352 0) (length-replicate {A = ℕ} 2352 0)

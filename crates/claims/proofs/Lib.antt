@@ -1,5 +1,5 @@
 -- Demand 1; demand 3 of the row machine, how the chip refines it, and what follows: what counts, what the answers show, the letter, a chip reset, the
--- regulator's sentence, machines that are shut out, runs and cases.
+-- regulator's sentence, machines that are shut out, runs, cases and numbers.
 pub mod Demand1
 pub mod RowSizes
 pub mod RowWords
@@ -17,7 +17,12 @@ pub mod Cases
 pub mod Runs
 pub mod MetRuns
 pub mod NumbersMet
+pub mod Reached
 pub mod CasesMet
+pub mod PinsCalls
+pub mod PinsRuns
+pub mod Pins
+pub mod PinsMet
 pub mod OneBook
 pub mod WrongWord
 pub mod Stages

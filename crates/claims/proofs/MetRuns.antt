@@ -51,7 +51,7 @@ module _ (u : List ℕ) (size : length u ≡ 2352) where
       }
 
 module _ (S : Simulation the-chip the-row) where
-  by-chip : {n : ℕ} {cs : List Call} {rs : List Answer} → 3 ≤ n → n ≤ 255 → unhidden cs ≡ true → Gives the-row n cs rs → Gives the-chip n cs rs
+  pub by-chip : {n : ℕ} {cs : List Call} {rs : List Answer} → 3 ≤ n → n ≤ 255 → unhidden cs ≡ true → Gives the-row n cs rs → Gives the-chip n cs rs
   by-chip {n} {cs} low high plainly g =
       record { given = λ x size. same-answers S cs plainly (the-chip .opened n x) (the-row .opened n x) (S .opened n low high x size) ∙ g .given x size }
 

@@ -2,6 +2,7 @@
 use Prim.Native.Nat.{ℕ}
 use Rattle.chip.specs.Machine.{the-chip}
 use Rattle.claims.specs.Cases.{CasesMet}
+use Rattle.claims.specs.Pins.{Pins, PinsMet}
 use Rattle.claims.specs.Letter.{Accounted, Never-again}
 use Rattle.claims.specs.Runs.{MetClaim}
 use Rattle.claims.specs.Wrong.{Shut-out, bad-restart, taking-abort, constant-word}
@@ -9,6 +10,8 @@ use Rattle.claims.proofs.CasesMet as cases
 use Rattle.claims.proofs.Demand3.{row-demand3, demand3}
 use Rattle.claims.proofs.Letter.{accounted-by, never-again-by}
 use Rattle.claims.proofs.MetRuns as runs
+use Rattle.claims.proofs.Pins as table
+use Rattle.claims.proofs.PinsMet as numbers
 use Rattle.claims.proofs.Refines.{refined-sound, chip-simulates}
 use Rattle.claims.proofs.WrongAbort as abort
 use Rattle.claims.proofs.WrongRestart as restart
@@ -25,6 +28,12 @@ met = runs.met chip-simulates
 
 pub cases-met : CasesMet
 cases-met = cases.cases-met chip-simulates (λ s r h. h) refined-sound
+
+pub pins : Pins
+pins = table.pins chip-simulates
+
+pub pins-met : PinsMet
+pins-met = numbers.pins-met chip-simulates (λ s r h. h) refined-sound
 
 pub bad-restart-fails : Shut-out bad-restart
 bad-restart-fails = restart.bad-restart-fails row-demand3

@@ -10,6 +10,7 @@ use borrow.Author.Tests.{eq-eqb, not-true}
 use Rattle.laws.specs.Choice.{if_then_else_}
 use Rattle.laws.proofs.Choice.{left-true, right-true}
 use Rattle.sector.specs.Judge.{good, judgement}
+use Rattle.sector.specs.Receive.{received}
 use Rattle.sector.specs.Sector.{framed, sealed}
 use Rattle.sector.specs.declared.Address.{Address}
 use Rattle.sector.specs.declared.Judgement.{Judgement}
@@ -23,7 +24,7 @@ use Rattle.controller.specs.State.{initial}
 use Rattle.controller.specs.Transfer.{settled, concluded}
 use Rattle.controller.specs.Write as registers
 use Rattle.controller.specs.declared.state.Controller.{Controller}
-use Rattle.outcomes.specs.Machine.{Call, Answer, replied, Machine, after, answers}
+use Rattle.outcomes.specs.Machine.{Call, sector, Answer, replied, Machine, after, answers}
 use Rattle.outcomes.specs.Row.{Row, answered, row-answer, row-step, the-row}
 use Rattle.claims.specs.Demand3.{hidden}
 use Rattle.claims.specs.Refinement.{Simulation}
@@ -85,14 +86,18 @@ taken-row j bytes s =
 abbrev pub frame : ℕ → Address
 frame f = record { minute = 0; second = 2; frame = f }
 
+-- a sector that is received so
+module _ (x bytes : List ℕ) (s : Row) (j : Judgement) (size : length x ≡ 2352) (e : received (s .controller .expected) x ≡ record { bytes = bytes; judgement = j }) where
+  pub taken : Ran the-row (sector x ∷ []) s (taken-answer j s ∷ []) (taken-row j bytes s)
+  unfolding row-answer row-step
+  taken = let fits = eq-eqb (length x) 2352 size in record { told = simp (fits, e); left = simp (fits, e) }
+
 -- a sealed sector
 module _ (u : List ℕ) (size : length u ≡ 2352) (f : ℕ) (s : Row) (j : Judgement) (e : judgement (s .controller .expected) (framed (frame f) u) ≡ j) where
   pub decoded : Ran the-row (disc u f ∷ []) s (taken-answer j s ∷ []) (taken-row j (framed (frame f) u) s)
-  unfolding row-answer row-step
   decoded =
-      let fits = eq-eqb (length (sealed (frame f) u)) 2352 (length-sealed (frame f) u size) in
-      let r = received-sealed (s .controller .expected) (frame f) u size in
-      record { told = simp (fits, r, e); left = simp (fits, r, e) }
+      taken (sealed (frame f) u) (framed (frame f) u) s j (length-sealed (frame f) u size)
+      (received-sealed (s .controller .expected) (frame f) u size ∙ ap (λ (x : Judgement). record { bytes = framed (frame f) u; judgement = x }) e)
 
 -- Three blocks with k good sectors decoded, from frame 0 on
 

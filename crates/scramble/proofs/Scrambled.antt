@@ -1,14 +1,16 @@
 -- The laws of xored lists and of scrambled sectors. Assumes nothing.
-use mathlib.Core.Path.{_≡_, refl, ap, ap₂, _∙_}
+use mathlib.Core.Path.{_≡_, refl, sym, ap, ap₂, _∙_}
 use mathlib.Core.List.{List, [], _∷_, _++_}
-use Prim.Native.Nat.{ℕ, zero, suc, _<_}
+use Prim.Native.Nat.{ℕ, zero, suc, _-_, _<_}
 use native.Mathlib.Nat.{le-of-suc-le-suc, not-suc-le-zero}
 use native.Mathlib.Omega.{arith}
 use lib.ListN.{length, take, drop, getD, length-append, length-drop, take-append-drop}
 use lib.Seq.{length-take-le, take-at, drop-at}
 use lib.Bits.{bitXor}
+use borrow.Rule.Slice.PartMut.{putMid, midOf}
 use Rattle.laws.specs.Bytes.{Bytes}
 use Rattle.laws.proofs.Bytes.{bytes-of, bytes-cons, bytes-append, bytes-take, bytes-drop, xor-byte}
+use Rattle.laws.proofs.Parts.{put-rest, mid-rest}
 use Rattle.laws.proofs.Xor.{xor-cancel}
 use Rattle.scramble.specs.Table.{table}
 use Rattle.scramble.specs.Scramble.{xored, scrambled}
@@ -69,3 +71,10 @@ pub bytes-scrambled : (s : List ℕ) → Bytes s → Bytes (scrambled s)
 unfolding scrambled
 bytes-scrambled s h =
     bytes-append (take 12 s) (xored (drop 12 s) table) (bytes-take 12 s h) (bytes-xored (drop 12 s) table (bytes-drop 12 s h) bytes-table)
+
+-- a sector, after a call was lent its bytes 12 to 2,351, and what that call was lent
+pub put-from-12 : (s last : List ℕ) → length s ≡ 2352 → putMid 12 2340 s last ≡ take 12 s ++ last
+put-from-12 s last full = ap (λ (n : ℕ). putMid 12 (n - 12) s last) (sym full) ∙ put-rest 12 s last
+
+pub mid-from-12 : (s : List ℕ) → length s ≡ 2352 → midOf 12 2340 s ≡ drop 12 s
+mid-from-12 s full = ap (λ (n : ℕ). midOf 12 (n - 12) s) (sym full) ∙ mid-rest 12 s

@@ -38,7 +38,7 @@ pub fn scramble(sector: &mut [u8])
     ensures { λ _. ⌜ now (sector .exit) ≡ scrambled (now (sector .entry)) ⌝ }
 {
     let t = table::table();
-    xor(&mut sector[12..], &t);
+    xor(&mut sector[12..2352], &t);
 }
 
 // The same of `src`, written to `dst`: `src` is only read.
@@ -50,5 +50,5 @@ pub fn scramble_into(dst: &mut [u8], src: &[u8])
 {
     let t = table::table();
     bytes::copy(&src[..12], dst);
-    xor_into(&mut dst[12..], &src[12..], &t);
+    xor_into(&mut dst[12..2352], &src[12..2352], &t);
 }

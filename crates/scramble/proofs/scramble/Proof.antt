@@ -4,8 +4,8 @@ use mathlib.Core.List.{List, _++_}
 use Prim.Native.Nat.{ℕ}
 use borrow.Author.Needs.{needs}
 use lib.ListN.{take}
-use Rattle.laws.proofs.Parts.{put-rest, mid-rest}
 use Rattle.scramble.specs.Scramble.{xored, scrambled}
+use Rattle.scramble.proofs.Scrambled.{put-from-12, mid-from-12}
 use Rattle.scramble.proofs.scramble.Statement.{statement}
 use Rattle.scramble.proofs.scramble.Tie as tie
 
@@ -34,9 +34,10 @@ returns : tie.Need-returns
 unfolding scrambled
 returns c =
     let x = c .before .before .xor in
-    let s = c .before .before .before .before .before .before .before .args .sector .now in
-    put-rest 12 s (x .last .0)
-    ∙ ap (λ (l : List ℕ). take 12 s ++ l) (x .ensures ∙ ap₂ xored (mid-rest 12 s) (c .before .before .before .before .before .table .ensures))
+    let a = c .before .before .before .before .before .before .before in
+    let s = a .args .sector .now in
+    put-from-12 s (x .last .0) (a .pre)
+    ∙ ap (λ (l : List ℕ). take 12 s ++ l) (x .ensures ∙ ap₂ xored (mid-from-12 s (a .pre)) (c .before .before .before .before .before .table .ensures))
 
 pub scramble-spec : {M : Type 1} → statement M
 scramble-spec = tie.close (tie.spec table-requires sub-xor part-xor-start part-xor-end slice-aggregate-xor xor-requires same-length returns)

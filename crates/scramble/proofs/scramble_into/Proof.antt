@@ -5,9 +5,9 @@ use Prim.Native.Nat.{ℕ}
 use native.Mathlib.Omega.{arith}
 use lib.ListN.{length, take, drop}
 use lib.Seq.{length-take-le, take-at, take-length}
-use Rattle.laws.proofs.Parts.{put-rest, mid-rest}
 use Rattle.scramble.specs.Scramble.{xored, scrambled}
 use borrow.Author.Needs.{needs}
+use Rattle.scramble.proofs.Scrambled.{put-from-12, mid-from-12}
 use Rattle.scramble.proofs.scramble_into.Statement.{statement}
 use Rattle.scramble.proofs.scramble_into.Tie as tie
 
@@ -60,9 +60,9 @@ returns c =
     let y = c .before .before .before .before .before .before .before .before .copy in
     let a = c .before .before .before .before .before .before .before .before .before .before .before .before .before .before in
     let s = a .args .src .now in
-    put-rest 12 (y .last .1 .0) (x .last .0)
+    put-from-12 (y .last .1 .0) (x .last .0) (omega arith)
     ∙ ap₂ (λ (k l : List ℕ). k ++ l) (front s (a .args .dst .now) (y .last .1 .0) (a .pre .1) (y .ensures .1))
-    (x .ensures ∙ ap₂ xored (mid-rest 12 s) (c .before .before .before .before .before .before .before .before .before .before .before .table .ensures))
+    (x .ensures ∙ ap₂ xored (mid-from-12 s (a .pre .1)) (c .before .before .before .before .before .before .before .before .before .before .before .table .ensures))
 
 pub scramble-into-spec : {M : Type 1} → statement M
 scramble-into-spec =

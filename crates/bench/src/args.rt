@@ -41,7 +41,7 @@ fn asked(word: &[u8]) -> i32 {
 }
 
 // The descriptor to read from; below 0 where there is nothing to run.
-pub fn input() -> i32 {
+pub(crate) fn input() -> i32 {
     let count = os::arg_count();
     if count < 2 {
         return STDIN_FILENO;

@@ -1,6 +1,8 @@
-/* Runs lines of the bench (docs/BENCH.md) through the library and prints their answers. From the repository's folder, after `rt staticlib exports`:
+/* Runs lines of the bench (docs/BENCH.md) through the library and prints their answers. From the repository's folder, after `make lib`:
  *
- *   gcc -std=c11 -Wall -Wextra -Werror -O2 -Iinclude examples/lines.c target/staticlib/libexports.a -o target/lines && target/lines
+ *   make examples && target/examples/lines
+ *
+ * or anywhere, after `make install`: gcc -std=c11 -O2 lines.c $(pkg-config --cflags --libs cdrom) -o lines
  *
  * The exit status is 1 where the answers are not those that are expected. */
 #include <stdio.h>

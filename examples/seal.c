@@ -1,6 +1,8 @@
-/* Seals a sector, opens it and judges it, whole and damaged. From the repository's folder, after `rt staticlib exports`:
+/* Seals a sector, opens it and judges it, whole and damaged. From the repository's folder, after `make lib`:
  *
- *   gcc -std=c11 -Wall -Wextra -Werror -O2 -Iinclude examples/seal.c target/staticlib/libexports.a -o target/seal && target/seal
+ *   make examples && target/examples/seal
+ *
+ * or anywhere, after `make install`: gcc -std=c11 -O2 seal.c $(pkg-config --cflags --libs cdrom) -o seal
  *
  * The exit status is 1 where an answer is not the one that is expected. */
 #include <stdio.h>

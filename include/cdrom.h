@@ -1,11 +1,11 @@
-/* Sectors of mode 1 (ECMA-130): sealing, opening, judging, and the error detection code; and the bench over a text of calls.
+/* A CD-ROM drive's buffer: the chip with its ring of blocks; sectors of mode 1 (ECMA-130); and the bench over a text of calls.
  *
- * Link target/staticlib/libexports.a, which `rt staticlib exports` makes (x86-64 Linux). Of a C library it needs `memset` and nothing
+ * Link libcdrom.a, which `make lib` puts into target/staticlib (x86-64 Linux). Of a C library it needs `memset` and nothing
  * else. The calls keep no state, take no lock and allocate nothing, and return for every input. docs/BENCHMARKS.md has the stack that
- * each takes.
+ * each takes, docs/FIRMWARE.md the way for boards with another processor.
  *
- * The caller's part: a pointer is not null, even where the length is 0; it points to that many bytes; nothing else writes them
- * during the call, nor reads them where the call writes; and the bytes of one call do not overlap. */
+ * The caller's part: a pointer is not null, even where the length is 0; it points to that many bytes or words, aligned as its type
+ * asks; nothing else writes them during the call, nor reads them where the call writes; and what is lent to one call does not overlap. */
 #ifndef CDROM_H
 #define CDROM_H
 
@@ -16,48 +16,195 @@
 extern "C" {
 #endif
 
+/* Goes up when a name, a size, a number or a call of this header changes its meaning. */
+#define CDROM_VERSION 1
+
 #define CDROM_SECTOR_BYTES 2352
 
 /* A sector's user bytes: where they begin, and how many there are. */
 #define CDROM_USER_OFFSET 16
 #define CDROM_USER_BYTES 2048
 
-/* Reply numbers. A call that refuses changes no byte; where several refusals apply it gives the lowest number. The calls on sectors give
- * the first three; an answer of the bench may be any. */
+/* A ring has 3 to 255 blocks; its memory is as many times the bytes of a block. */
+#define CDROM_BLOCK_BYTES 2560
+#define CDROM_LEAST_BLOCKS 3
+#define CDROM_MOST_BLOCKS 255
+
+/* Reply numbers. A call that refuses changes no byte; where several refusals apply it gives the lowest number. */
 #define CDROM_DONE 0
-#define CDROM_WRONG_LENGTH 1 /* of the bench also: this ring cannot be opened */
-#define CDROM_BAD_ADDRESS 3  /* of the bench also: a value is out of its range */
-#define CDROM_NO_REGISTER 2  /* no such register in that direction, or the line is malformed */
+#define CDROM_WRONG_LENGTH 1 /* a wrong length; of the chip also: a ring of so many blocks cannot be, or the record is unsound */
+#define CDROM_NO_REGISTER 2  /* no such register in that direction; of the bench also: the line is malformed */
+#define CDROM_OUT_OF_RANGE 3 /* a value or an address is out of its range */
 #define CDROM_BARRED 4       /* not now: a transfer runs, a packet is being received, or BSY is set */
-#define CDROM_SWITCHES 5     /* the switches are not as the call needs them, or no chip is open */
+#define CDROM_SWITCHES 5     /* the switches are not as the call needs them; of the bench also: no chip is open */
 #define CDROM_TOO_FEW 6      /* fewer good blocks than asked for, or no full packet */
 #define CDROM_DECODING_OFF 7 /* a sector while DECEN is low */
-#define CDROM_HELD 8         /* a sector after a bad one */
+#define CDROM_HELD 8         /* a sector after a bad one; take DECEN low first */
 #define CDROM_NO_ROOM 9      /* a sector, and the ring is at its stop */
+#define CDROM_BAD_ADDRESS CDROM_OUT_OF_RANGE
 
-/* The result of cdrom_judge, as register 80h of the W88113C shows it: sync, mode or code wrong; another address than expected. */
-#define CDROM_STAERR 0x40
-#define CDROM_HCEI 0x01
-
-/* An answer of cdrom_seal, cdrom_open or cdrom_judge: the reply number in the low byte, the result's bits above it. */
+/* An answer: the reply number in the low byte, the result's bits above it. A refusal has the result 0: look at the number first. */
 #define CDROM_NUMBER(answer) ((answer) & 0xFF)
 #define CDROM_RESULT(answer) ((answer) >> 8)
 
+/* -- Sectors ------------------------------------------------------------------------------------------------------------------- */
+
 /* Makes the buffer a scrambled sector at an address, where it lies: writes bytes 0 to 15, the code and the zeros after it around the
  * user bytes (16 to 2,063) and parity bytes (2,076 to 2,351) that are there, then scrambles bytes 12 to 2,351. Minute 0..99, second
- * 0..59, frame 0..74. The result is 0. */
+ * 0..59, frame 0..74. Refusals: 1 another length, 3 the address. The result is 0. */
 uint32_t cdrom_seal(uint8_t *sector, size_t length, uint16_t minute, uint16_t second, uint16_t frame);
 
-/* Descrambles a sector where it lies. The result is 0. */
+/* Descrambles a sector where it lies. Refusals: 1 another length. The result is 0. */
 uint32_t cdrom_open(uint8_t *sector, size_t length);
 
 /* Judges an opened sector against the address that is expected of it. A raw image of a disc (2,352 bytes a sector) holds its sectors
- * descrambled: they are judged as they are, without cdrom_open. The result is 0 for a good sector, or STAERR, HCEI or both. A
- * refusal has the result 0 too: look at the number first. The whole answer is 0 exactly for a good sector. */
+ * descrambled: they are judged as they are, without cdrom_open. Refusals: 1 another length, 3 the address. The result is 0 for a good
+ * sector, or CDROM_STAERR, CDROM_HCEI or both. The whole answer is 0 exactly for a good sector. */
 uint32_t cdrom_judge(const uint8_t *sector, size_t length, uint16_t minute, uint16_t second, uint16_t frame);
 
 /* The error detection code of any number of bytes; it is no answer, and never refused. */
 uint32_t cdrom_edc(const uint8_t *bytes, size_t length);
+
+/* -- Registers of the W88113C -------------------------------------------------------------------------------------------------- */
+
+#define CDROM_TACK 0x07   /* w: clears APKT */
+#define CDROM_CTRL0 0x0A  /* w */
+#define CDROM_MBTC0 0x12  /* rw: MBC, the blocks of a transfer less one, 0..31 */
+#define CDROM_ASTRG 0x17  /* w */
+#define CDROM_ASCTRL 0x18 /* rw */
+#define CDROM_TBL 0x24    /* r: T, the block that is served next */
+#define CDROM_TBH 0x25    /* r: 0 */
+#define CDROM_MISS2 0x30  /* r */
+#define CDROM_ATERR 0x31  /* rw */
+#define CDROM_ATINT 0x32  /* rw */
+#define CDROM_ATBLO 0x34  /* rw: the byte count's low byte */
+#define CDROM_ATBHI 0x35  /* rw: its high byte */
+#define CDROM_ATSTA 0x37  /* w: the status */
+#define CDROM_ATCMD 0x37  /* r: the last command */
+#define CDROM_STATUS 0x38 /* r: the status, HIRQ kept */
+#define CDROM_LDDBL 0x3A  /* r: the block that was filled last */
+#define CDROM_LDDBH 0x3B  /* r: 0 */
+#define CDROM_APKSTA 0x3D /* w */
+#define CDROM_ASCSTA 0x3E /* w */
+#define CDROM_TARSTA 0x80 /* r: of the last sector that was taken */
+#define CDROM_BICCTL 0x9A /* rw */
+#define CDROM_BUFLIM 0x9B /* w: 0 to the ring's blocks less 2 */
+#define CDROM_BUFC 0x9B   /* r: filled blocks */
+#define CDROM_ACCTL 0x9C  /* rw */
+#define CDROM_TCC 0x9D    /* rw: good blocks */
+#define CDROM_SKIPC 0x9E  /* w: skips so many of the oldest good blocks */
+#define CDROM_TTC 0x9F    /* rw: blocks that are to be transferred in all */
+
+/* CTRL0 */
+#define CDROM_DECEN 0x80
+/* ASTRG, one of */
+#define CDROM_SCT 0x01  /* status completion */
+#define CDROM_ADTT 0x04 /* start a transfer */
+#define CDROM_SIGT 0x10 /* signature */
+/* ASCTRL */
+#define CDROM_APKTEN 0x80
+#define CDROM_ADCEN 0x40
+#define CDROM_ASCEN 0x20 /* needs ADCEN */
+#define CDROM_AUTOEN 0x10
+#define CDROM_STWCEN 0x08
+#define CDROM_A0IEN 0x01
+/* MISS2 */
+#define CDROM_FPKT 0x02
+#define CDROM_APKT 0x01
+/* ATSTA and the host's status; of ASCSTA DRDY, CORR and CHECK, of APKSTA DSC */
+#define CDROM_BSY 0x80
+#define CDROM_DRDY 0x40
+#define CDROM_DSC 0x10
+#define CDROM_DRQ 0x08
+#define CDROM_CORR 0x04
+#define CDROM_CHECK 0x01
+/* TARSTA, and the result of cdrom_judge and cdrom_chip_sector: sync, mode or code is wrong; another address than expected */
+#define CDROM_STAERR 0x40
+#define CDROM_HCEI 0x01
+/* BICCTL */
+#define CDROM_BLIMEN 0x20
+#define CDROM_BLIMS 0x10
+/* ACCTL; ATLIM is its low five bits, and 0 of them is 32 blocks */
+#define CDROM_ATTEN 0x80
+#define CDROM_ACMEN 0x40
+#define CDROM_TCINCEN 0x20
+#define CDROM_ATLIM 0x1F
+
+/* The command that begins a packet, with APKTEN. */
+#define CDROM_PACKET_COMMAND 0xA0
+
+/* -- The chip ------------------------------------------------------------------------------------------------------------------ */
+
+/* The chip's record. Its words are the library's to read and write: they may be copied, kept and handed to any later call. Any words
+ * in it are some record: one that was not made by an accepted cdrom_chip_open and these calls may be unsound, and then every call
+ * answers 1 (a burst of no words 0), a look is empty, and nothing is changed. Words that are all 0 are unsound. */
+#define CDROM_CHIP_WORDS 28
+typedef struct cdrom_chip {
+    uint16_t word[CDROM_CHIP_WORDS];
+} cdrom_chip;
+
+/* Of a sound record, each call below says its refusals in their order; 1 stands first in all of them. `ring` is the ring's memory of
+ * ring_length bytes, blocks times CDROM_BLOCK_BYTES; another length is refused with 1. What lies in it at an opening does not matter. Lend
+ * the same memory each time, as the last call left it. After every accepted call but open and look the chip may start a transfer by itself (ATTEN, TCC and TTC set). */
+
+/* A chip of so many blocks, all as opened. Refusals: 1 blocks not 3..255; the record then has 0 blocks and is unsound. */
+uint32_t cdrom_chip_open(cdrom_chip *chip, uint16_t blocks);
+
+/* Writes a register. Refusals: 1; 2 no register that is written; 3 the value; then 4, 5, 6 as docs/CALLS.md has them by register. */
+uint32_t cdrom_chip_write(cdrom_chip *chip, uint16_t reg, uint16_t value);
+
+/* Reads a register; the result is its value. Refusals: 1; 2 no register that is read. */
+uint32_t cdrom_chip_read(cdrom_chip *chip, uint16_t reg);
+
+/* Sets T, and B to the same block. Refusals: 1; 3 the ring has no such block; 4 a transfer; 5 DECEN is high or TCC not 0. */
+uint32_t cdrom_chip_set_block(cdrom_chip *chip, uint16_t block);
+
+/* Sets the part of each block that the host is given. Refusals: 1; 3 words not 1..1,176 or the end above 2,352; 4 a transfer. */
+uint32_t cdrom_chip_set_window(cdrom_chip *chip, uint16_t offset, uint16_t words);
+
+/* Sets the address that is expected next. Refusals: 1; 3 the address; 5 DECEN is high. */
+uint32_t cdrom_chip_set_expected(cdrom_chip *chip, uint16_t minute, uint16_t second, uint16_t frame);
+
+/* A byte of the full packet, 0..11; the result is the byte. Refusals: 1; 3 the index; 6 FPKT is 0. */
+uint32_t cdrom_chip_packet_byte(cdrom_chip *chip, uint16_t index);
+
+/* All as opened; the ring keeps its number of blocks. Refusals: 1. */
+uint32_t cdrom_chip_reset(cdrom_chip *chip);
+
+/* A sector as it comes from the disc: descrambled into block B, judged against the expected address, and counted where it is good. The
+ * result is CDROM_STAERR, CDROM_HCEI, both, or 0 for a good one. Bytes 0 to 2,351 of block B are written and no other; the sector
+ * itself is only read. Refusals: 1, also where the sector is not 2,352 bytes; 7 DECEN is low; 8 after a bad one; 9 at the stop. */
+uint32_t cdrom_chip_sector(cdrom_chip *chip, uint8_t *ring, size_t ring_length, const uint8_t *sector, size_t length);
+
+/* The window of the oldest good block, also of one half read, as a part of the ring: *offset is where it begins, the return value how many
+ * bytes it has. 0 and 0 where TCC is 0, no window is set, or a call with a ring would be refused with 1. It has no reply number. */
+size_t cdrom_chip_look(const cdrom_chip *chip, const uint8_t *ring, size_t ring_length, size_t *offset);
+
+/* The host reads a word, its first byte low: the result. Refusals: 1; 5 no transfer runs. */
+uint32_t cdrom_chip_word(cdrom_chip *chip, const uint8_t *ring, size_t ring_length);
+
+/* So many words one after the other, as cdrom_chip_word hands them over, until one would be refused. *handed is how many stand at the
+ * front of `words`; the words behind them stay. Refusals: those of the first word; *handed is then 0. With count 0 nothing is asked,
+ * and the answer is 0. */
+uint32_t cdrom_chip_words(cdrom_chip *chip, const uint8_t *ring, size_t ring_length, uint16_t *words, size_t count, size_t *handed);
+
+/* The host writes a command. CDROM_PACKET_COMMAND with APKTEN begins a packet, any other sets BSY. Refusals: 1; 3 above 255; 4 BSY, a
+ * transfer or a reception. */
+uint32_t cdrom_chip_command(cdrom_chip *chip, uint16_t code);
+
+/* The host writes a word of a packet, its first byte low. Refusals: 1; 5 no packet is being received. */
+uint32_t cdrom_chip_packet_word(cdrom_chip *chip, uint16_t word);
+
+/* The host reads the status: the result. HIRQ is cleared. Refusals: 1. */
+uint32_t cdrom_chip_status(cdrom_chip *chip);
+
+/* The interrupt line to the host: 1 where HIRQ is set, else 0. It has no reply number, and reads the record as it stands. */
+uint32_t cdrom_chip_irq(const cdrom_chip *chip);
+
+/* The host's abort: ends a transfer or a reception; T, TCC and the ring stay. Refusals: 1. */
+uint32_t cdrom_chip_srst(cdrom_chip *chip);
+
+/* -- The bench ----------------------------------------------------------------------------------------------------------------- */
 
 /* The ring's memory for the bench's largest ring, 25 blocks; and what must be left of `out` for a line to be run: no answer is longer. */
 #define CDROM_RING_BYTES 64000

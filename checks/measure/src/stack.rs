@@ -2,7 +2,8 @@
 //! that was painted before, and the bytes from the top to the lowest changed
 //! one are counted, the return address and arguments on the stack among them.
 
-use cdrom::{judge, open, raw, seal, Address, Verdict, ANSWER_ROOM};
+use cdrom::registers::{ACCTL, ACMEN, ADCEN, ADTT, ASCTRL, ASTRG, BICCTL, BLIMEN, CTRL0, DECEN, TCC, TCINCEN};
+use cdrom::{judge, open, raw, seal, Address, Chip, Record, Verdict, ANSWER_ROOM};
 use ecma130::SECTOR_BYTES;
 use model::{random_script, BLOCK_BYTES};
 use std::arch::asm;
@@ -26,14 +27,89 @@ pub fn print() {
     }
 }
 
-fn by_call() -> [(&'static str, usize); 5] {
-    [
+fn by_call() -> Vec<(&'static str, usize)> {
+    let mut calls = sector_calls();
+    calls.extend(chip_calls());
+    calls.push(("cdrom_bench", of_bench()));
+    calls
+}
+
+fn sector_calls() -> Vec<(&'static str, usize)> {
+    vec![
         ("cdrom_seal", of_sector_call(raw::cdrom_seal as Function)),
         ("cdrom_open", of_sector_call(raw::cdrom_open as Function)),
         ("cdrom_judge", of_sector_call(raw::cdrom_judge as Function)),
         ("cdrom_edc", of_sector_call(raw::cdrom_edc as Function)),
-        ("cdrom_bench", of_bench()),
     ]
+}
+
+/// The calls that touch no memory share their code but for the register and the command: a start, which does most.
+fn chip_calls() -> Vec<(&'static str, usize)> {
+    let lent = Lent::new();
+    let (ring, room) = ([lent.ring.as_ptr() as u64, lent.ring.len() as u64], lent.words.as_ptr() as u64);
+    let sector = [lent.sector.as_ptr() as u64, lent.sector.len() as u64];
+    let count = &mut 0_usize as *mut usize as u64;
+    let of = |function, record, rest: [u64; 5]| of_chip_call(function, record, rest);
+    vec![
+        ("cdrom_chip_open", of(raw::cdrom_chip_open as Function, lent.decoding, [25, 0, 0, 0, 0])),
+        ("cdrom_chip_write", of(raw::cdrom_chip_write as Function, lent.ready, [ASTRG as u64, ADTT as u64, 0, 0, 0])),
+        ("cdrom_chip_read", of(raw::cdrom_chip_read as Function, lent.ready, [TCC as u64, 0, 0, 0, 0])),
+        ("cdrom_chip_command", of(raw::cdrom_chip_command as Function, lent.decoding, [0x28, 0, 0, 0, 0])),
+        ("cdrom_chip_status", of(raw::cdrom_chip_status as Function, lent.ready, [0; 5])),
+        ("cdrom_chip_irq", of(raw::cdrom_chip_irq as Function, lent.ready, [0; 5])),
+        (
+            "cdrom_chip_sector",
+            of(raw::cdrom_chip_sector as Function, lent.decoding, [ring[0], ring[1], sector[0], sector[1], 0]),
+        ),
+        ("cdrom_chip_look", of(raw::cdrom_chip_look as Function, lent.ready, [ring[0], ring[1], count, 0, 0])),
+        ("cdrom_chip_word", of(raw::cdrom_chip_word as Function, lent.last, [ring[0], ring[1], 0, 0, 0])),
+        (
+            "cdrom_chip_words",
+            of(raw::cdrom_chip_words as Function, lent.started, [ring[0], ring[1], room, 1024, count]),
+        ),
+    ]
+}
+
+/// What a chip is lent, and its record while it decodes, with a good block, with a transfer started, and before its last word.
+struct Lent {
+    ring: Vec<u8>,
+    sector: Vec<u8>,
+    words: Vec<u16>,
+    decoding: Record,
+    ready: Record,
+    started: Record,
+    last: Record,
+}
+
+impl Lent {
+    fn new() -> Lent {
+        let (mut ring, mut sector, mut words) = (vec![0; 25 * BLOCK_BYTES], vec![0x11; SECTOR_BYTES], vec![0; 1024]);
+        seal(&mut sector, Address { minute: 0, second: 2, frame: 0 }).unwrap();
+        let mut chip = Chip::open(25, &mut ring).unwrap();
+        for (register, value) in [(BICCTL, BLIMEN), (ACCTL, ACMEN | TCINCEN), (ASCTRL, ADCEN), (CTRL0, DECEN)] {
+            chip.write(register, value).unwrap();
+        }
+        chip.set_window(16, 1024).unwrap();
+        let decoding = chip.record();
+        chip.sector(&sector).unwrap();
+        chip.command(0x28).unwrap();
+        let ready = chip.record();
+        chip.write(ASTRG, ADTT).unwrap();
+        let started = chip.record();
+        chip.words(&mut words[1..]).unwrap();
+        let last = chip.record();
+        Lent { ring, sector, words, decoding, ready, started, last }
+    }
+}
+
+fn of_chip_call(function: Function, record: Record, rest: [u64; 5]) -> usize {
+    let touched = PAINTS.map(|paint| {
+        let mut record = record;
+        let [a, b, c, d, e] = rest;
+        // SAFETY: each call takes a record first, and the others' memory outlives it; numbers that it does not take it does not read.
+        unsafe { touched(paint, function, [record.as_mut_ptr() as u64, a, b, c, d, e], &[]) }
+    });
+    touched[0].max(touched[1])
 }
 
 fn of_sector_call(function: Function) -> usize {
@@ -110,13 +186,19 @@ mod tests {
     use model::parse;
     use std::collections::BTreeSet;
 
-    /// One set of tables at a time: the code's are 5 KB, the scrambling sequence 2,340 bytes. The bench has
+    /// The code's tables are 5 KB, the scrambling sequence 2,340 bytes: a sector call has one of them at a time, the chip's
+    /// sector both. The bench has
     /// the chip's record several times besides.
     #[test]
-    fn no_sector_call_takes_six_kilobytes_and_the_bench_not_ten() {
+    fn each_call_keeps_below_its_limit() {
         for (name, bytes) in by_call() {
-            let limit = if name == "cdrom_bench" { 10 * 1024 } else { 6 * 1024 };
-            assert!((2340..limit).contains(&bytes), "{name} takes {bytes} bytes of stack");
+            let limit = match name {
+                "cdrom_bench" => 10 * 1024,
+                "cdrom_chip_sector" => 9 * 1024,
+                "cdrom_seal" | "cdrom_open" | "cdrom_judge" | "cdrom_edc" => 6 * 1024,
+                _ => 2 * 1024,
+            };
+            assert!(bytes < limit, "{name} takes {bytes} bytes of stack");
         }
     }
 

@@ -1,13 +1,14 @@
 -- What each call's tests and callees make of its answer: a callee's result comes in with the equation that it is known by. Assumes nothing.
-use Prim.Native.Nat.{ℕ, _+_, _*_, _<_, _≤_}
-use mathlib.Core.Path.{_≡_, sym, ap, _∙_}
+use Prim.Native.Nat.{ℕ, _+_, _-_, _*_, _<_, _≤_}
+use mathlib.Core.Path.{_≡_, refl, sym, ap, subst, _∙_}
 use mathlib.Core.Bool.{Bool, true, false, _&&_, not}
 use mathlib.Core.List.{List, []}
 use native.Mathlib.Omega.{arith}
 use lib.Dec.{eqb}
 use lib.ListN.{length, take, drop}
 use borrow.Author.Tests.{not-true, not-false, eqb-true, eqb-false, eq-eqb, ne-eqb}
-use Rattle.laws.proofs.Choice.{if-true, if-false, left-true, right-true}
+use Rattle.laws.specs.Choice.{if_then_else_}
+use Rattle.laws.proofs.Choice.{if-case, if-true, if-false, left-true, right-true}
 use Rattle.laws.proofs.Tests.{and3, if-not}
 use Rattle.calls.specs.declared.Call.{Call}
 use Rattle.sector.specs.Address.{valid}
@@ -22,14 +23,33 @@ use Rattle.ring.specs.Memory.{base, stored}
 use Rattle.ring.specs.Place.{PlaceSound, full, ring-facts}
 use Rattle.outcomes.proofs.Calls.{word-running}
 use Rattle.outcomes.proofs.Consistent.{window-end}
-use Rattle.chip.specs.Calls.{called, sector-number, received-by, sector-told, sector-ring, lent, sector-lent, looked, next-word, word-by, word-told}
+use Rattle.chip.specs.Calls.{called, sector-number, received-by, sector-told, sector-ring, lent, sector-lent, look-part, looked, next-word, word-by, word-told}
 use Rattle.chip.specs.Chip.{refused, ring-fits, finished}
 use Rattle.chip.specs.Sound.{sound}
 use Rattle.chip.specs.declared.Chip.{Chip}
+use Rattle.chip.specs.declared.Part.{Part}
 use Rattle.chip.specs.declared.Told.{Told}
 use Rattle.chip.specs.declared.Word.{Word}
 use Rattle.chip.specs.declared.Word.the-variants.{Handed, Refused}
 use Rattle.chip.proofs.Sounds.{SoundFacts, sound-facts}
+
+-- a look's bytes, by its tests
+pub looked-is : (c : Chip) (ring : List ℕ)
+    → looked c ring
+    ≡ (if sound c && ring-fits c ring && not (eqb (c .controller .counts .tcc) 0) && not (eqb (c .controller .window .words) 0)
+    then take (2 * c .controller .window .words) (drop (base (c .place .t) + c .controller .window .offset) ring)
+    else [])
+unfolding looked look-part
+looked-is c ring = by (sound c && ring-fits c ring && not (eqb (c .controller .counts .tcc) 0) && not (eqb (c .controller .window .words) 0))
+  where
+    shows : Part → List ℕ
+    shows p = take (p .size) (drop (p .start) ring)
+
+    by : (b : Bool)
+        → shows (if b then record { start = base (c .place .t) + c .controller .window .offset; size = 2 * c .controller .window .words } else record { start = 0; size = 0 })
+        ≡ (if b then take (2 * c .controller .window .words) (drop (base (c .place .t) + c .controller .window .offset) ring) else [])
+    by true = refl
+    by false = refl
 
 -- a call that touches no memory
 module _ (c : Chip) (call : Call) {f : Bool} (is : f ≡ sound c) where
@@ -141,29 +161,49 @@ module _ (c : Chip) (ring : List ℕ) where
     shown : Bool → Bool
     shown b = b && not (eqb (c .controller .counts .tcc) 0) && not (eqb (c .controller .window .words) 0)
 
-    window-part : List ℕ
-    window-part = take (2 * c .controller .window .words) (drop (base (c .place .t) + c .controller .window .offset) ring)
+    window-part : Part
+    window-part = record { start = base (c .place .t) + c .controller .window .offset; size = 2 * c .controller .window .words }
+
+    none : Part
+    none = record { start = 0; size = 0 }
 
     abbrev hidden : Bool
     hidden = not (f && not (eqb (c .controller .counts .tcc) 0) && not (eqb (c .controller .window .words) 0))
 
-    pub look-refused : hidden ≡ true → [] ≡ looked c ring
-    unfolding looked shown window-part
-    look-refused h = sym (if-false (shown (sound c && ring-fits c ring)) window-part [] (ap shown (sym is) ∙ not-true (shown f) h))
+    pub part-refused : hidden ≡ true → record { start = 0; size = 0 } ≡ look-part c ring
+    unfolding look-part shown window-part none
+    part-refused h = sym (if-false (shown (sound c && ring-fits c ring)) window-part none (ap shown (sym is) ∙ not-true (shown f) h))
 
-    pub look-in : hidden ≡ false → base (c .place .t) + c .controller .window .offset + 2 * c .controller .window .words ≤ length ring
-    look-in h =
-        let w = eqb (c .controller .window .words) 0 in
-        let t = and3 f (not (eqb (c .controller .counts .tcc) 0)) (not w) (not-false (f && not (eqb (c .controller .counts .tcc) 0) && not w) h) in
-        let a = ready (sym is ∙ t .0) in
-        let e = window-end (c .controller .window .offset) (c .controller .window .words) (a .facts .window) (eqb-false (c .controller .window .words) 0 (not-true w (t .2))) in
-        let l = a .facts .place .t-in in
-        omega (arith, a .whole)
+    pub part-done : hidden ≡ false
+        → record { start = base (c .place .t) + c .controller .window .offset; size = 2 * c .controller .window .words } ≡ look-part c ring
+    unfolding look-part shown window-part none
+    part-done h = sym (if-true (shown (sound c && ring-fits c ring)) window-part none (ap shown (sym is) ∙ not-false (shown f) h))
 
-    pub look-done : hidden ≡ false → {x : List ℕ}
-        → x ≡ take (2 * c .controller .window .words) (drop (base (c .place .t) + c .controller .window .offset) ring) → x ≡ looked c ring
-    unfolding looked shown window-part
-    look-done h e = e ∙ sym (if-true (shown (sound c && ring-fits c ring)) window-part [] (ap shown (sym is) ∙ not-false (shown f) h))
+  -- a look's part lies in the ring
+  part-in : look-part c ring .start + look-part c ring .size ≤ length ring
+  unfolding look-part
+  part-in =
+      let t = eqb (c .controller .counts .tcc) 0 in
+      let w = eqb (c .controller .window .words) 0 in
+      if-case (λ (p : Part). p .start + p .size ≤ length ring) (sound c && ring-fits c ring && not t && not w)
+      (record { start = base (c .place .t) + c .controller .window .offset; size = 2 * c .controller .window .words }) (record { start = 0; size = 0 })
+      (λ h.
+      let s = and3 (sound c && ring-fits c ring) (not t) (not w) h in
+      let a = ready (s .0) in
+      let e = window-end (c .controller .window .offset) (c .controller .window .words) (a .facts .window) (eqb-false (c .controller .window .words) 0 (not-true w (s .2))) in
+      let l = a .facts .place .t-in in
+      omega (arith, a .whole))
+      (λ h. omega arith)
+
+  module _ {p : Part} (is : p ≡ look-part c ring) where
+    pub look-end : p .start + p .size ≤ length ring
+    look-end = subst (λ (q : Part). q .start + q .size ≤ length ring) (sym is) part-in
+
+    pub look-shows : take (p .start + p .size - p .start) (drop (p .start) ring) ≡ looked c ring
+    unfolding looked
+    look-shows =
+        let n : p .start + p .size - p .start ≡ p .size = omega arith in
+        ap (λ (k : ℕ). take k (drop (p .start) ring)) n ∙ ap (λ (q : Part). take (q .size) (drop (q .start) ring)) is
 
   -- the host's word
   module _ {f : Bool} (is : f ≡ (sound c && ring-fits c ring)) where

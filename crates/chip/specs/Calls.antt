@@ -1,7 +1,7 @@
 -- What each call answers, and the ring it leaves, on every input (paper 01, "Registers", "The ring", "Host and transfers"). Assumes nothing.
 use Prim.Native.Nat.{ℕ, _+_, _*_}
 use mathlib.Core.Bool.{_&&_, not}
-use mathlib.Core.List.{List, []}
+use mathlib.Core.List.{List}
 use lib.Dec.{eqb}
 use lib.ListN.{length, take, drop}
 use Rattle.laws.specs.Bytes.{word-at}
@@ -17,6 +17,7 @@ use Rattle.ring.specs.Place.{full, ring-facts}
 use Rattle.chip.specs.Chip.{refused, ring-fits, finished}
 use Rattle.chip.specs.Sound.{sound}
 use Rattle.chip.specs.declared.Chip.{Chip}
+use Rattle.chip.specs.declared.Part.{Part}
 use Rattle.chip.specs.declared.Told.{Told}
 use Rattle.chip.specs.declared.Word.{Word}
 use Rattle.chip.specs.declared.Word.the-variants.{Handed, Refused}
@@ -61,12 +62,16 @@ lent t ring = record { told = t; ring = ring }
 abbrev pub sector-lent : Chip → List ℕ → List ℕ → Lent
 sector-lent c ring s = lent (sector-told c ring s) (sector-ring c ring s)
 
--- a look at the oldest block: the window's bytes of block T, or none
-unfoldable pub looked : Chip → List ℕ → List ℕ
-looked c ring =
+-- where a look lies in the ring: the window of block T, or a part of no bytes
+unfoldable pub look-part : Chip → List ℕ → Part
+look-part c ring =
     if sound c && ring-fits c ring && not (eqb (c .controller .counts .tcc) 0) && not (eqb (c .controller .window .words) 0)
-    then take (2 * c .controller .window .words) (drop (base (c .place .t) + c .controller .window .offset) ring)
-    else []
+    then record { start = base (c .place .t) + c .controller .window .offset; size = 2 * c .controller .window .words }
+    else record { start = 0; size = 0 }
+
+-- a look at the oldest block: the bytes of that part
+unfoldable pub looked : Chip → List ℕ → List ℕ
+looked c ring = take (look-part c ring .size) (drop (look-part c ring .start) ring)
 
 -- the word that the host would read next: of block T, at the window's offset and the transfer's position
 abbrev pub next-word : Chip → List ℕ → ℕ

@@ -34,6 +34,12 @@ pub struct WordTold {
     pub word: Word,
 }
 
+// A part of the ring: its first byte and how many it has.
+pub struct Part {
+    pub start: usize,
+    pub size: usize,
+}
+
 impl Chip {
     // Ruled out: one that takes a ring of 2 or 256 blocks, and one that opens with TCC 1.
     pub fn open(n: u16) -> Told

@@ -1,5 +1,6 @@
 // The calls that the ring's memory is lent to: a sector, a look at the oldest block, and the host's word.
 use crate::Chip;
+use crate::Part;
 use crate::Told;
 use crate::Word;
 use crate::WordTold;
@@ -8,11 +9,12 @@ ghost use mathlib.Core.Path.{_≡_};
 ghost use mathlib.Core.Bool.{_&&_};
 ghost use Rattle.chip.specs.Chip.{ring-fits};
 ghost use Rattle.chip.specs.Sound.{sound};
-ghost use Rattle.chip.specs.Calls.{sector-number, lent, sector-lent, looked, word-told};
+ghost use Rattle.chip.specs.Calls.{sector-number, lent, sector-lent, look-part, looked, word-told};
 
 impl Chip {
     // What every call with a lent ring tests first: a sound record, and a ring of its N blocks.
-    fn ready(self, ring: &[u8]) -> bool
+    // Ruled out: one that takes a ring of N blocks and a byte, and one that looks at the ring alone.
+    pub fn ready(self, ring: &[u8]) -> bool
         ensures { λ r. ⌜ r ≡ (sound self && ring-fits self (now (ring .entry))) ⌝ }
     {
         let place = self.place;
@@ -48,18 +50,32 @@ impl Chip {
         conclude(place, step)
     }
 
-    // Ruled out: one that shows block B, and one that shows a block when TCC is 0.
-    pub fn look(self, ring: &[u8]) -> &[u8]
-        ensures { λ r. ⌜ now r ≡ looked self (now (ring .entry)) ⌝ }
+    // Where the oldest block's window lies in the ring; no bytes where there is none.
+    // Ruled out: one that gives block B's, and one that gives a part when TCC is 0.
+    pub fn look_part(self, ring: &[u8]) -> Part
+        ensures { λ r. ⌜ r ≡ look-part self (now (ring .entry)) ⌝ }
     {
         let controller = self.controller;
         let place = self.place;
         let counts = controller.counts;
         let window = controller.window;
         if !(self.ready(ring) & !(counts.tcc == 0) & !(window.words == 0)) {
-            return &ring[0..0];
+            return Part { start: 0, size: 0 };
         }
-        ring::words_of(ring, place.t, window.offset, window.words)
+        Part {
+            start: place.t as usize * 2560 + window.offset as usize,
+            size: 2 * window.words as usize,
+        }
+    }
+
+    // Ruled out: one that shows block B, and one that shows a block when TCC is 0.
+    pub fn look(self, ring: &[u8]) -> &[u8]
+        ensures { λ r. ⌜ now r ≡ looked self (now (ring .entry)) ⌝ }
+    {
+        let part = self.look_part(ring);
+        let a = part.start;
+        let e = a + part.size;
+        &ring[a..e]
     }
 
     // Ruled out: one whose word is constant, and one that serves block B, or counts TCC and T only at the transfer's end.

@@ -44,13 +44,14 @@ use Rattle.outcomes.proofs.Outcome.{concluded-refused}
 use Rattle.outcomes.proofs.Rows.{concluded-reply}
 use Rattle.chip.specs.Chip as chip
 use Rattle.chip.specs.Chip.{opened, ring-fits, finished}
-use Rattle.chip.specs.Calls.{called, sector-number, received-by, sector-told, sector-ring, looked, next-word, word-by, word-told}
+use Rattle.chip.specs.Calls.{called, sector-number, received-by, sector-told, sector-ring, next-word, word-by, word-told}
 use Rattle.chip.specs.Machine.{State, over, of-word, chip-answer, chip-step}
 use Rattle.chip.specs.Sound.{sound}
 use Rattle.chip.specs.declared.Chip.{Chip}
 use Rattle.chip.specs.declared.Told.{Told}
 use Rattle.chip.specs.declared.Word.the-variants.{Handed, Refused}
 use Rattle.chip.specs.declared.WordTold.{WordTold}
+use Rattle.chip.proofs.Answers.{looked-is}
 use Rattle.claims.specs.Demand1.{Reasons, Applies, Lowest, ordered, one-of, read-registers, write-reasons, plain-reasons, reasons, Resultless, Refusal, sealing-reasons, Demand1}
 use Rattle.claims.proofs.Refines.{refined-sound, refines-opened}
 
@@ -528,8 +529,8 @@ look-keeps s = refl
 unseen : (s : State)
     → (sound (s .chip) && ring-fits (s .chip) (s .ring) && not (eqb (s .chip .controller .counts .tcc) 0) && not (eqb (s .chip .controller .window .words) 0)) ≡ false
     → chip-answer look s ≡ seen []
-unfolding chip-answer looked
-unseen s e = ap seen (if-false (sound (s .chip) && ring-fits (s .chip) (s .ring) && not (eqb (s .chip .controller .counts .tcc) 0) && not (eqb (s .chip .controller .window .words) 0)) _ [] e)
+unfolding chip-answer
+unseen s e = ap seen (looked-is (s .chip) (s .ring) ∙ if-false (sound (s .chip) && ring-fits (s .chip) (s .ring) && not (eqb (s .chip .controller .counts .tcc) 0) && not (eqb (s .chip .controller .window .words) 0)) _ [] e)
 
 -- Opening
 

@@ -16,7 +16,7 @@ use Rattle.controller.specs.Write.{write, write-astrg}
 use Rattle.controller.specs.declared.state.Controller.{Controller}
 use Rattle.chip.specs.Chip.{finished, ring-fits}
 use Rattle.chip.specs.Sound.{sound}
-use Rattle.chip.specs.Calls.{called, sector-number, sector-told, sector-ring, looked, word-told}
+use Rattle.chip.specs.Calls.{called, sector-number, sector-told, sector-ring, look-part, looked, word-told}
 use Rattle.chip.specs.declared.Chip.{Chip}
 use Rattle.claims.specs.Pins.{GivenStart, Starts, GivenLook, Unlent, Outside, Inside}
 use Rattle.claims.proofs.Cases.{none-due}
@@ -59,12 +59,12 @@ module _ (c : Chip) where
       )
 
   pub look-block : (ring : List ℕ) → GivenLook c ring → looked c ring ≡ take 2048 (drop (c .place .t * 2560 + 16) ring)
-  unfolding looked
+  unfolding looked look-part
   look-block ring h = simp (h .sound-record, eq-eqb (length ring) (c .place .n * 2560) (h .whole), h .one, h .offset, h .words)
 
   -- a record that is unsound, or is lent a ring that does not fit
   unlent : (ring : List ℕ) → (sound c && ring-fits c ring) ≡ false → Unlent c ring
-  unfolding sector-number sector-told sector-ring looked word-told
+  unfolding sector-number sector-told sector-ring looked look-part word-told
   unlent ring h = record { sectors = λ s. simp h; words = simp h; looks = simp h }
 
   pub unfit : (ring : List ℕ) (n bytes : ℕ) → c .place .n ≡ n → length ring ≡ bytes → (bytes ≡ n * 2560 → ⊥) → Unlent c ring

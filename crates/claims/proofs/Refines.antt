@@ -45,6 +45,7 @@ use Rattle.chip.specs.declared.Chip.{Chip}
 use Rattle.chip.specs.declared.Told.{Told}
 use Rattle.chip.specs.declared.Word.the-variants.{Handed, Refused}
 use Rattle.chip.specs.declared.WordTold.{WordTold}
+use Rattle.chip.proofs.Answers.{looked-is}
 use Rattle.chip.proofs.Sounds.{facts-sound}
 use Rattle.claims.specs.Demand3.{masked}
 use Rattle.claims.specs.Refinement.{Refines, Simulation}
@@ -250,8 +251,8 @@ module _ (c : Controller) (p : Place) (x : List ℕ) (w : List (List ℕ))
 
     -- the oldest block
     pub answer-look : chip-answer look S ≡ row-answer look R
-    unfolding chip-answer row-answer calls.looked
-    answer-look = ap seen (rw (chip-sound, chip-fits) (represented-look R h p x rep))
+    unfolding chip-answer row-answer
+    answer-look = ap seen (looked-is K x ∙ rw (chip-sound, chip-fits) (represented-look R h p x rep))
 
     pub word-is : word-told K x ≡ record { chip = finished p (word-step R) .chip; word = word-by (host-word c .reply .number) (next-word K x) }
     unfolding word-told

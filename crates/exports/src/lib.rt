@@ -1,28 +1,17 @@
-// The calls on sectors, and the bench, for C and Rust; include/cdrom.h declares them and says what a C caller must keep. A slice is passed
-// as a pointer and then a length. None has a precondition: any bytes, of any number, and any address are answered, and a refusal changes no byte.
+// The calls on sectors, the chip and the bench for C and Rust; include/cdrom.h declares them and says what a C caller must keep. A slice is
+// passed as a pointer and then a length, an array or a number that is lent as a pointer. None has a precondition: any bytes, of any number,
+// any words of a record and any address are answered, and a refusal changes no byte. The chip's calls are in `plain` and `memory`.
+mod answer;
+mod memory;
+mod plain;
+
+use answer::at;
+use answer::packed;
 ghost use mathlib.Core.Path.{_≡_};
 ghost use Rattle.edc.specs.Edc.{edc};
 ghost use Rattle.sector.specs.Calls.{seal-sector, open-sector};
-ghost use Rattle.exports.specs.Words.{at, packed, seal-word, open-word, judge-word, bench-run};
+ghost use Rattle.exports.specs.Words.{at, seal-word, open-word, judge-word, bench-run};
 use script::Bench;
-use sector::Address;
-
-fn at(minute: u16, second: u16, frame: u16) -> Address
-    ensures { λ r. ⌜ r ≡ at minute second frame ⌝ }
-{
-    Address {
-        minute,
-        second,
-        frame,
-    }
-}
-
-// The reply number in the low byte, the result above it.
-fn packed(number: u8, result: u16) -> u32
-    ensures { λ r. ⌜ r ≡ packed number result ⌝ }
-{
-    (number as u32) + 256 * (result as u32)
-}
 
 // Seals a buffer at an address where it lies.
 // Ruled out: one that seals at another address, and one that answers 0 where it refused.

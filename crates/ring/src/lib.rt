@@ -6,7 +6,6 @@ use controller::Event;
 use controller::RingFacts;
 pub use memory::store;
 pub use memory::word_of;
-pub use memory::words_of;
 ghost use mathlib.Core.Path.{_≡_};
 ghost use Prim.Native.Nat.{_+_, _%_, _<_};
 ghost use Rattle.ring.specs.Place.{opened, ring-facts, full, place-step, PlaceSound};

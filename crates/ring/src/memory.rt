@@ -1,11 +1,11 @@
-// The lent memory: a sector is received into its block, and a word or a part of a block is read.
+// The lent memory: a sector is received into its block, and a word of a block is read.
 use numbers::wide;
 use sector::Address;
 use sector::Judgement;
 ghost use mathlib.Core.Path.{_≡_};
 ghost use mathlib.Core.Bool.{true};
 ghost use Prim.Native.Nat.{_+_, _*_, _<_, _≤_};
-ghost use lib.ListN.{length, take, drop};
+ghost use lib.ListN.{length};
 ghost use Rattle.laws.specs.Bytes.{word-at};
 ghost use Rattle.sector.specs.Address.{valid};
 ghost use Rattle.sector.specs.Receive.{received};
@@ -23,17 +23,6 @@ pub fn store(ring: &mut [u8], b: u16, sector: &[u8], expected: Address) -> Judge
     let a = b as usize * 2560;
     let e = a + 2352;
     sector::receive(&mut ring[a..e], sector, expected)
-}
-
-// The words of block t from an offset on, as a part of the ring.
-// Ruled out: one that reads on into the next word, and one that starts at the block's first byte whatever the offset.
-pub fn words_of(ring: &[u8], t: u16, offset: u16, words: u16) -> &[u8]
-    requires { ⌜ base t + offset + 2 * words ≤ length (now ring) ⌝ }
-    ensures { λ r. ⌜ now r ≡ take (2 * words) (drop (base t + offset) (now (ring .entry))) ⌝ }
-{
-    let a = t as usize * 2560 + offset as usize;
-    let e = a + 2 * words as usize;
-    &ring[a..e]
 }
 
 // A word of block t, its first byte low.

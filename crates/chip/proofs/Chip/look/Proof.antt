@@ -1,11 +1,17 @@
 -- `chip::Chip::look` meets its contract. Assumes nothing.
-use Rattle.chip.proofs.Answers.{look-refused, look-in, look-done}
+use native.Mathlib.Omega.{arith}
+use Rattle.chip.proofs.Answers.{look-end, look-shows}
 use borrow.Author.Needs.{needs}
 use Rattle.chip.proofs.Chip.look.Statement.{statement}
 use Rattle.chip.proofs.Chip.look.Tie as tie
 
-ready-requires : tie.Need-ready-requires
-ready-requires c κs = search needs
+look-part-requires : tie.Need-look-part-requires
+look-part-requires c κs = search needs
+
+add-e : tie.Need-add-e
+add-e c =
+    let end = look-end (c .before .before .before .args .self) (c .before .before .before .args .ring .now) (c .before .look-part .ensures) in
+    omega (arith, end)
 
 sub-result : tie.Need-sub-result
 sub-result c = search needs
@@ -14,25 +20,14 @@ part-result-start : tie.Need-part-result-start
 part-result-start c = search needs
 
 part-result-end : tie.Need-part-result-end
-part-result-end c = search needs
+part-result-end c =
+    let end = look-end (c .before .before .before .args .self) (c .before .before .before .args .ring .now) (c .before .look-part .ensures) in
+    omega (arith, end)
 
 returns : tie.Need-returns
-returns c = search look-refused
-
-words-of-requires : tie.Need-words-of-requires
-words-of-requires c κs = search look-in
-
-returns-2 : tie.Need-returns-2
-returns-2 c = search look-done
+returns c = search look-shows
 
 pub look-spec : {M : Type 1} → statement M
 look-spec =
     tie.close
-    (tie.spec
-    ready-requires
-    sub-result
-    part-result-start
-    part-result-end
-    returns
-    words-of-requires
-    returns-2)
+    (tie.spec look-part-requires add-e sub-result part-result-start part-result-end returns)

@@ -1,0 +1,31 @@
+//! The proved library held against the model, call by call: the linked
+//! archive and `model` are given the same random calls, and all that a call answers and leaves
+//! is compared after it.
+
+mod blind;
+mod buffers;
+mod call;
+mod checker;
+mod difference;
+mod expectation;
+mod happenings;
+mod library;
+mod limits;
+mod loading;
+mod memory;
+mod noting;
+pub mod record;
+mod run;
+mod sectors;
+mod soundness;
+mod stand_in;
+mod steering;
+mod stories;
+mod twins;
+
+pub use call::{Answer, Call};
+pub use difference::Difference;
+pub use happenings::Happenings;
+pub use library::{Lent, Library, Linked};
+pub use run::run;
+pub use stand_in::StandIn;

@@ -1,0 +1,192 @@
+//! A run: a line of calls from an opening, and between them calls on
+//! records that were changed or made up.
+
+use crate::call::Call;
+use crate::checker::Checker;
+use crate::difference::Difference;
+use crate::happenings::{
+    loaded_name, neighbour_name, spoiling_name, Happenings, ALL_BUT_ONE_IN_RANGE, ANY_WORDS, FLIPPED_SOUND,
+    FLIPPED_UNSOUND, IN_RANGE, REFUSED_OPENING,
+};
+use crate::library::Library;
+use crate::limits::{Change, NEIGHBOURS, SPOILINGS};
+use crate::loading::{all_but_one_in_range, any_words, flipped, in_range};
+use crate::memory::Memory;
+use crate::record::{Record, BLOCKS};
+use crate::soundness::is_sound;
+use crate::steering::{ring_bytes, Chooser};
+use crate::twins::Twins;
+use model::{Chip, Random, BLOCK_BYTES};
+
+/// Calls of the line between two records that are loaded, on average; transfers and receptions are
+/// short, and much is asked of their numbers.
+const BETWEEN_LOADS: u64 = 40;
+const BETWEEN_LOADS_IF_ENGAGED: u64 = 10;
+/// Calls that follow one another on a record that was loaded.
+const WALK: usize = 8;
+/// Numbers of blocks that cannot be opened.
+const NO_RINGS: [u16; 6] = [0, 1, 2, 256, 259, 65535];
+
+/// So many calls, all of them named by the seed. What happened, or where the two parted.
+pub fn run<L: Library>(library: &mut L, seed: u64, calls: u64) -> Result<Happenings, Box<Difference>> {
+    Run::new(library, seed, calls).run()
+}
+
+struct Run<'a, L: Library> {
+    checker: Checker<'a, L>,
+    /// Decides what is loaded.
+    random: Random,
+    line: Chooser,
+    walker: Chooser,
+    memory: Memory,
+    /// For loaded records, so that the line's ring is as the line has left it.
+    other_memory: Memory,
+    twins: Twins,
+    limit: u64,
+    /// How often each change was made; the rarest that can be made comes next.
+    spoilings: Vec<u64>,
+    neighbours: Vec<u64>,
+}
+
+impl<'a, L: Library> Run<'a, L> {
+    fn new(library: &'a mut L, seed: u64, limit: u64) -> Run<'a, L> {
+        let mut random = Random::new(seed);
+        let mut further_seed = || random.below(1 << 40);
+        let checker = Checker::new(library, further_seed());
+        let (line, walker) = (Chooser::new(further_seed()), Chooser::new(further_seed()));
+        let (memory, other_memory) = (Memory::stale(&mut random), Memory::stale(&mut random));
+        let twins = Twins::loaded(any_words(&mut random));
+        // Runs are not to begin with the same changes.
+        let spoilings = SPOILINGS.iter().map(|_| random.below(2)).collect();
+        let neighbours = NEIGHBOURS.iter().map(|_| random.below(2)).collect();
+        Run { checker, random, line, walker, memory, other_memory, twins, limit, spoilings, neighbours }
+    }
+
+    fn run(mut self) -> Result<Happenings, Box<Difference>> {
+        if self.limit > 0 {
+            let opening = self.line.opening();
+            self.checker.make(&mut self.twins, &mut self.memory, opening)?;
+        }
+        while self.goes_on() {
+            let chip = self.line_chip();
+            let call = self.line.next(&chip);
+            self.checker.make(&mut self.twins, &mut self.memory, call)?;
+            if self.is_time_to_load() {
+                self.load()?;
+            }
+        }
+        self.checker.compare_whole(&self.memory, &self.twins)?;
+        self.checker.compare_whole(&self.other_memory, &self.twins)?;
+        Ok(self.checker.happenings)
+    }
+
+    fn goes_on(&self) -> bool {
+        self.checker.calls < self.limit
+    }
+
+    fn is_time_to_load(&mut self) -> bool {
+        let chip = self.line_chip();
+        let engaged = chip.transfer.is_some() || chip.reception.is_some();
+        self.random.one_in(if engaged { BETWEEN_LOADS_IF_ENGAGED } else { BETWEEN_LOADS })
+    }
+
+    fn line_chip(&self) -> Chip {
+        self.twins.chip.expect("the line is sound after each call")
+    }
+
+    fn load(&mut self) -> Result<(), Box<Difference>> {
+        let record = self.twins.record;
+        let (kind, words) = match self.random.below(12) {
+            0..=4 => return self.spoil(),
+            5..=6 => return self.go_to_a_limit(),
+            7 => return self.open(),
+            8 => (ANY_WORDS, any_words(&mut self.random)),
+            9 => (IN_RANGE, in_range(&mut self.random)),
+            10 => (ALL_BUT_ONE_IN_RANGE, all_but_one_in_range(&mut self.random)),
+            _ => {
+                let words = flipped(&record, &mut self.random);
+                (if is_sound(&words) { FLIPPED_SOUND } else { FLIPPED_UNSOUND }, words)
+            }
+        };
+        self.probe(&loaded_name(kind), words)
+    }
+
+    fn spoil(&mut self) -> Result<(), Box<Difference>> {
+        let record = self.twins.record;
+        let Some((change, spoiled)) = rarest_change(&SPOILINGS, &mut self.spoilings, &record) else {
+            return Ok(());
+        };
+        assert!(!is_sound(&spoiled), "{} leaves the record sound: {spoiled:?}", change.name);
+        self.probe(&spoiling_name(change.name), spoiled)
+    }
+
+    fn go_to_a_limit(&mut self) -> Result<(), Box<Difference>> {
+        let record = self.twins.record;
+        let Some((change, neighbour)) = rarest_change(&NEIGHBOURS, &mut self.neighbours, &record) else {
+            return Ok(());
+        };
+        assert!(is_sound(&neighbour), "{} leaves the record unsound: {neighbour:?}", change.name);
+        self.probe(&neighbour_name(change.name), neighbour)
+    }
+
+    /// Openings over words of any values. On what a refused one leaves every call is refused.
+    fn open(&mut self) -> Result<(), Box<Difference>> {
+        let mut twins = Twins::loaded(any_words(&mut self.random));
+        let opening = self.walker.opening();
+        self.make_aside(&mut twins, opening)?;
+        let mut twins = Twins::loaded(any_words(&mut self.random));
+        let blocks = self.random.pick(&NO_RINGS);
+        self.make_aside(&mut twins, Call::Open { blocks })?;
+        self.probe(&loaded_name(REFUSED_OPENING), twins.record)
+    }
+
+    /// Every kind of call on the record, each time as it was; then a walk, if it is sound.
+    fn probe(&mut self, name: &str, record: Record) -> Result<(), Box<Difference>> {
+        let start = Twins::loaded(record);
+        let chip = start.chip.unwrap_or(self.line_chip());
+        for call in self.walker.every_call(&chip) {
+            let fitting = if start.chip.is_some() { call } else { call.with_lent(lent_to(&record, &chip)) };
+            self.make_aside(&mut start.clone(), fitting)?;
+        }
+        // A run that ends here may have left some of them out.
+        self.checker.happenings.count_if(self.goes_on(), name);
+        self.walk(start)
+    }
+
+    fn walk(&mut self, mut twins: Twins) -> Result<(), Box<Difference>> {
+        for _ in 0..WALK {
+            let Some(chip) = twins.chip else {
+                break;
+            };
+            let call = self.walker.next(&chip);
+            self.make_aside(&mut twins, call)?;
+        }
+        Ok(())
+    }
+
+    /// A call beside the line, unless all calls of the run are made.
+    fn make_aside(&mut self, twins: &mut Twins, call: Call) -> Result<(), Box<Difference>> {
+        if !self.goes_on() {
+            return Ok(());
+        }
+        self.checker.make(twins, &mut self.other_memory, call)
+    }
+}
+
+/// Of the changes that can be made on the record the one that was made least often so far.
+fn rarest_change<'c>(changes: &'c [Change], made: &mut [u64], record: &Record) -> Option<(&'c Change, Record)> {
+    let possible = changes.iter().enumerate().filter_map(|(place, change)| Some((place, change.applied(record)?)));
+    let (place, changed) = possible.min_by_key(|(place, _)| made[*place])?;
+    made[place] += 1;
+    Some((&changes[place], changed))
+}
+
+/// The bytes of the record's own N, where there is so much memory; so N itself is no reason to refuse.
+fn lent_to(record: &Record, chip: &Chip) -> usize {
+    let own = record[BLOCKS] as usize * BLOCK_BYTES;
+    if own <= Memory::longest() {
+        own
+    } else {
+        ring_bytes(chip)
+    }
+}

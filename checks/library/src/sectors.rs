@@ -1,0 +1,148 @@
+//! Sectors as they come from the disc, good and damaged. Each damage can come
+//! alone: the code is made to fit whatever else was changed, unless the code
+//! itself is to be wrong.
+
+use ecma130::{edc_by_table, scramble, Address, EDC_START, SECTOR_BYTES, SYNC, USER_START};
+use model::Random;
+
+const HEADER_START: usize = 12;
+const MODE_PLACE: usize = 15;
+const ZEROS_START: usize = 2068;
+
+/// A length that is right where only its low sixteen bits are looked at.
+pub const CUT_TO_FIT: usize = SECTOR_BYTES + 65536;
+
+/// What is wrong with a sector.
+#[derive(Clone, Copy, Debug, Default, PartialEq, Eq)]
+pub struct Damage {
+    pub sync: bool,
+    pub mode: bool,
+    /// A user byte or a byte of the code was changed after the code was taken.
+    pub code: bool,
+    pub address: bool,
+    /// The zeros behind the code, which no one judges.
+    pub zeros: bool,
+}
+
+/// A sector by its description; the bytes that it leaves open are random.
+#[derive(Clone, Copy, Debug, PartialEq, Eq)]
+pub struct Sector {
+    pub length: usize,
+    pub address: Address,
+    pub damage: Damage,
+}
+
+impl Damage {
+    /// Any mixture of kinds, at least one of them judged.
+    pub fn random(random: &mut Random) -> Damage {
+        let mut kind = || random.one_in(2);
+        let damage = Damage { sync: kind(), mode: kind(), code: kind(), address: kind(), zeros: kind() };
+        if damage.is_judged() {
+            damage
+        } else {
+            Damage::single(random.below(4), damage.zeros)
+        }
+    }
+
+    /// One kind alone.
+    pub fn single(kind: u64, zeros: bool) -> Damage {
+        Damage { sync: kind == 0, mode: kind == 1, code: kind == 2, address: kind == 3, zeros }
+    }
+
+    pub fn is_judged(self) -> bool {
+        self.sync || self.mode || self.code || self.address
+    }
+
+    /// What register 80h must show of it, by paper 01.
+    pub fn bits(self) -> u32 {
+        ((self.sync || self.mode || self.code) as u32) << 6 | self.address as u32
+    }
+
+    /// How many of the judged kinds there are.
+    pub fn kinds(self) -> usize {
+        [self.sync, self.mode, self.code, self.address].iter().filter(|&&kind| kind).count()
+    }
+}
+
+impl Sector {
+    pub fn good(address: Address) -> Sector {
+        Sector { length: SECTOR_BYTES, address, damage: Damage::default() }
+    }
+
+    /// The bytes from the disc, scrambled. The address is a valid one.
+    pub fn make(&self, random: &mut Random) -> Vec<u8> {
+        let mut bytes = random.bytes(SECTOR_BYTES);
+        bytes[..HEADER_START].copy_from_slice(&SYNC);
+        bytes[HEADER_START..MODE_PLACE].copy_from_slice(&self.address.bcd());
+        bytes[MODE_PLACE] = 1;
+        self.spoil_header(&mut bytes, random);
+        let code = edc_by_table(&bytes[..EDC_START]);
+        bytes[EDC_START..ZEROS_START].copy_from_slice(&code.to_le_bytes());
+        if self.damage.code {
+            flip_one_of(&mut bytes[USER_START..ZEROS_START], random);
+        }
+        if !self.damage.zeros {
+            bytes[ZEROS_START..ZEROS_START + 8].fill(0);
+        }
+        scramble(&mut bytes[HEADER_START..]);
+        resized(bytes, self.length, random)
+    }
+
+    fn spoil_header(&self, bytes: &mut [u8], random: &mut Random) {
+        if self.damage.sync {
+            flip_one_of(&mut bytes[..HEADER_START], random);
+        }
+        if self.damage.mode {
+            bytes[MODE_PLACE] = random.pick(&[0, 2, 3, 0x81, 0xFF]);
+        }
+        if self.damage.address && random.one_in(2) {
+            bytes[HEADER_START..MODE_PLACE].copy_from_slice(&self.address.next().bcd());
+        } else if self.damage.address {
+            flip_one_of(&mut bytes[HEADER_START..MODE_PLACE], random);
+        }
+    }
+}
+
+fn flip_one_of(bytes: &mut [u8], random: &mut Random) {
+    let place = random.below(bytes.len() as u64) as usize;
+    bytes[place] ^= 1 << random.below(8);
+}
+
+fn resized(mut bytes: Vec<u8>, length: usize, random: &mut Random) -> Vec<u8> {
+    if length > bytes.len() {
+        bytes.extend(random.bytes(length - SECTOR_BYTES));
+    }
+    bytes.truncate(length);
+    bytes
+}
+
+#[cfg(test)]
+mod tests {
+    use super::*;
+    use ecma130::{judge, open};
+
+    const ADDRESS: Address = Address::new(12, 59, 74);
+
+    #[test]
+    fn each_mixture_is_judged_as_it_was_made() {
+        let mut random = Random::new(1);
+        for number in 0..32 {
+            let kind = |place: u8| number >> place & 1 == 1;
+            let damage = Damage { sync: kind(0), mode: kind(1), code: kind(2), address: kind(3), zeros: kind(4) };
+            for _ in 0..50 {
+                let mut bytes = Sector { damage, ..Sector::good(ADDRESS) }.make(&mut random);
+                open(&mut bytes).expect("its length is right");
+                let verdict = judge(&bytes, ADDRESS).expect("length and address are right");
+                assert_eq!(verdict.bits() as u32, damage.bits(), "{damage:?}");
+            }
+        }
+    }
+
+    #[test]
+    fn other_lengths() {
+        let mut random = Random::new(2);
+        for length in [0, 1, 2351, 2353, 4704] {
+            assert_eq!(Sector { length, ..Sector::good(ADDRESS) }.make(&mut random).len(), length);
+        }
+    }
+}

@@ -1,0 +1,25 @@
+//! The model in the library's place: the comparison can be tried by it, whatever the archive does.
+
+use crate::call::{Answer, Call};
+use crate::library::{Lent, Library};
+use crate::record::{self, Record};
+use crate::twins::{refused_opening, Twins};
+
+pub struct StandIn;
+
+impl Library for StandIn {
+    fn call(&mut self, record: &mut Record, call: &Call, lent: Lent) -> Answer {
+        let wanted = Twins::loaded(*record).wanted(call, lent);
+        match (call, &wanted.chip) {
+            (Call::Open { .. }, None) => *record = refused_opening(),
+            (Call::Words { count: 0, .. }, _) => {}
+            (_, Some(chip)) if wanted.answer.is_done() => *record = record::encoded(chip),
+            _ => {}
+        }
+        wanted.answer
+    }
+
+    fn irq(&mut self, record: &mut Record) -> u32 {
+        record::bit(record[record::STATUS], record::HIRQ) as u32
+    }
+}

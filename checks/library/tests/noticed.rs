@@ -1,0 +1,180 @@
+//! A single bit that is wrong in an answer, a record or lent memory is told, and at its call.
+
+mod faulty;
+
+use faulty::{Faulty, Made};
+use library::record::Record;
+use library::{run, Answer, Call, Lent, Library, StandIn};
+use model::BLOCK_BYTES;
+
+const SEED: u64 = 11;
+const CALLS: u64 = 5_000;
+const FROM: [u64; 3] = [1, 40, 1200];
+
+/// Runs with the fault from each of some calls on. It must be told, and at the call that had it.
+#[track_caller]
+fn is_noticed_at_once(what: &str, spoil: impl Fn(Made) -> bool) {
+    for from in FROM {
+        let mut library = Faulty::new(from, 1, &spoil);
+        let difference = run(&mut library, SEED, CALLS).err().unwrap_or_else(|| panic!("{what} was not noticed"));
+        assert_eq!(Some(difference.call_number), library.spoiled, "{what}: {difference}");
+    }
+}
+
+#[test]
+fn a_bit_of_the_number_or_the_result() {
+    for (number_bits, result_bits) in [(1, 0), (2, 0), (8, 0), (128, 0), (0, 1), (0, 128), (0, 256), (0, 1 << 23)] {
+        is_noticed_at_once("a bit of an answer", |made| {
+            let (number, result) = match made.answer {
+                Answer::Reply { number, result } | Answer::Burst { number, result, .. } => (number, result),
+                Answer::Part { .. } => return false,
+            };
+            *number ^= number_bits;
+            *result ^= result_bits;
+            true
+        });
+    }
+}
+
+/// The opening and the call after it: their records are known to the bit.
+#[test]
+fn each_bit_of_the_record() {
+    for (from, bit) in (1..=2).flat_map(|from| (0..28 * 16).map(move |bit| (from, bit))) {
+        let mut library = Faulty::new(from, 1, |made| {
+            made.record[bit / 16] ^= 1 << (bit % 16);
+            true
+        });
+        let difference = run(&mut library, SEED, 30).expect_err("a bit was changed");
+        assert_eq!(difference.call_number, from, "bit {bit}: {difference}");
+    }
+}
+
+#[test]
+fn a_refusal_that_changes_the_record() {
+    for word in [0, 3, 12, 13, 14, 15, 16, 19, 20, 21, 27] {
+        is_noticed_at_once(&format!("word {word} after a refusal"), |made| {
+            let refused = made.answer.number().is_some_and(|number| number > 0);
+            made.record[word] ^= (refused as u16) << 15;
+            refused
+        });
+    }
+}
+
+#[test]
+fn a_look_that_changes_the_record() {
+    is_noticed_at_once("a record after a look", |made| {
+        let look = matches!(made.answer, Answer::Part { .. });
+        made.record[21] ^= (look as u16) << 7;
+        look
+    });
+}
+
+#[test]
+fn a_look_at_another_part() {
+    for (offset_more, length_more) in [(1, 0), (0, 2), (BLOCK_BYTES, 0)] {
+        is_noticed_at_once("another part", |made| match made.answer {
+            Answer::Part { offset, length } => {
+                *offset += offset_more;
+                *length += length_more;
+                true
+            }
+            _ => false,
+        });
+    }
+}
+
+#[test]
+fn a_burst_with_another_word_or_count() {
+    is_noticed_at_once("the first word of a burst", |made| flip_word(made, |_, _| 0));
+    is_noticed_at_once("its last word", |made| flip_word(made, |handed, _| handed.wrapping_sub(1)));
+    is_noticed_at_once("the word behind those handed over", |made| flip_word(made, |handed, _| handed));
+    is_noticed_at_once("the last word that was lent", |made| flip_word(made, |_, lent| lent.wrapping_sub(1)));
+    is_noticed_at_once("another count", |made| match made.answer {
+        Answer::Burst { handed, .. } => {
+            *handed ^= 1;
+            true
+        }
+        _ => false,
+    });
+}
+
+/// Changes the word at a place that is told by those handed over and those lent.
+fn flip_word(made: Made, place: fn(usize, usize) -> usize) -> bool {
+    let Answer::Burst { handed, .. } = *made.answer else {
+        return false;
+    };
+    let lent = made.lent.words.len();
+    made.lent.words.get_mut(place(handed, lent)).map(|word| *word ^= 0x0100).is_some()
+}
+
+#[test]
+fn a_changed_sector() {
+    for place in [0, 11, 12, 2064, 2351] {
+        is_noticed_at_once("a changed sector", |made| {
+            made.lent.sector.get_mut(place).map(|byte| *byte ^= 0x10).is_some()
+        });
+    }
+}
+
+/// In block B of any ring: the bytes of the sector, and those behind it that are never written.
+#[test]
+fn a_byte_of_the_block_that_is_filled() {
+    for place in [0, 1, 12, 2351, 2352, 2559] {
+        is_noticed_at_once("a byte of block B", |made| {
+            let filled = matches!(made.call, Call::Sector { .. }) && made.answer.is_done();
+            let start = made.before[2] as usize * BLOCK_BYTES;
+            filled && made.lent.ring.get_mut(start + place).map(|byte| *byte ^= 1).is_some()
+        });
+    }
+}
+
+/// Elsewhere a byte is found by the next look at the whole memory, at the latest at the run's end.
+#[test]
+fn any_byte_of_the_ring() {
+    for place in 0..40 {
+        let mut library = Faulty::new(1000, 1, |made: Made| {
+            let length = made.lent.ring.len();
+            made.lent.ring.get_mut(length * place / 40).map(|byte| *byte ^= 0x80).is_some()
+        });
+        let difference = run(&mut library, SEED, 3_000).expect_err("a byte was changed");
+        assert!(Some(difference.call_number) >= library.spoiled, "{difference}");
+    }
+}
+
+/// Its interrupt line is never high.
+struct Silent;
+
+impl Library for Silent {
+    fn call(&mut self, record: &mut Record, call: &Call, lent: Lent) -> Answer {
+        StandIn.call(record, call, lent)
+    }
+
+    fn irq(&mut self, _record: &mut Record) -> u32 {
+        0
+    }
+}
+
+#[test]
+fn a_silent_interrupt_line() {
+    let difference = run(&mut Silent, SEED, CALLS).expect_err("the line is never high");
+    assert_eq!(difference.part.what, "the interrupt line");
+}
+
+#[test]
+fn nothing_where_nothing_is_wrong() {
+    run(&mut StandIn, SEED, CALLS).expect("the model against itself");
+}
+
+/// What is told of a difference is enough to make it again.
+#[test]
+fn the_report_names_call_record_and_field() {
+    let mut library = Faulty::new(1, 1, |made| {
+        made.record[4] += 1;
+        true
+    });
+    let report = run(&mut library, SEED, 10).expect_err("TCC was changed").to_string();
+    let answer = "answers:   Reply { number: 0, result: 0 }";
+    for part in ["call 1: Open { blocks: ", "before:   [", answer, "differs: TCC: model 0, library 1"] {
+        assert!(report.contains(part), "{part:?} in:\n{report}");
+    }
+}

@@ -1,0 +1,133 @@
+//! Sealing, opening and judging, valid and damaged, against the independent code.
+
+mod common;
+
+use cdrom::{Refusal, Verdict};
+use common::{judge, open, seal, valid_address, GOOD};
+use ecma130::{edc_bitwise, Address, EDC_START, SECTOR_BYTES, USER_BYTES, USER_START};
+use model::Random;
+
+const ZEROS_START: usize = EDC_START + 4;
+/// Where a field begins: sync, address, mode, user bytes, code, zeros, parity; and the last byte.
+const FIELD_EDGES: [usize; 8] = [0, 12, 15, USER_START, EDC_START, ZEROS_START, 2076, SECTOR_BYTES - 1];
+const ADDRESS: Address = Address::new(12, 34, 56);
+
+fn good_sector(random: &mut Random) -> Vec<u8> {
+    let mut sector = random.bytes(SECTOR_BYTES);
+    seal(&mut sector, ADDRESS).unwrap();
+    open(&mut sector).unwrap();
+    sector
+}
+
+/// The sector with its code made to fit, so that the other tests are seen alone.
+fn with_code(mut sector: Vec<u8>) -> Vec<u8> {
+    let code = edc_bitwise(&sector[..EDC_START]);
+    sector[EDC_START..ZEROS_START].copy_from_slice(&code.to_le_bytes());
+    sector
+}
+
+#[test]
+fn sealed_and_opened_gives_user_bytes_and_address_back() {
+    let mut random = Random::new(1);
+    for _ in 0..500 {
+        let address = valid_address(&mut random);
+        let mut sector = random.bytes(SECTOR_BYTES);
+        let user = sector[USER_START..][..USER_BYTES].to_vec();
+        seal(&mut sector, address).unwrap();
+        open(&mut sector).unwrap();
+        assert_eq!(sector[USER_START..][..USER_BYTES], user);
+        assert_eq!(sector[12..15], address.bcd());
+        assert_eq!(judge(&sector, address), Ok(GOOD));
+        let other = valid_address(&mut random);
+        assert_eq!(judge(&sector, other), Ok(Verdict { staerr: false, hcei: other != address }));
+    }
+}
+
+#[test]
+fn bytes_that_are_no_sector() {
+    let mut random = Random::new(2);
+    for _ in 0..500 {
+        let mut sector = random.bytes(SECTOR_BYTES);
+        judge(&sector, ADDRESS).unwrap();
+        open(&mut sector).unwrap();
+        judge(&sector, ADDRESS).unwrap();
+    }
+}
+
+#[test]
+fn every_single_bit() {
+    let mut sector = good_sector(&mut Random::new(3));
+    for bit in 0..SECTOR_BYTES * 8 {
+        let place = bit / 8;
+        sector[place] ^= 1 << (bit % 8);
+        let expected = Verdict { staerr: place < ZEROS_START, hcei: (12..15).contains(&place) };
+        assert_eq!(judge(&sector, ADDRESS), Ok(expected), "bit {bit}");
+        sector[place] ^= 1 << (bit % 8);
+    }
+}
+
+#[test]
+fn bursts_at_every_field() {
+    let mut random = Random::new(4);
+    let sector = good_sector(&mut random);
+    for edge in FIELD_EDGES {
+        for _ in 0..300 {
+            let mut damaged = sector.clone();
+            let start = edge.saturating_sub(random.below(8) as usize);
+            let end = (start + 1 + random.below(24) as usize).min(SECTOR_BYTES);
+            damaged[start..end].iter_mut().for_each(|byte| *byte ^= random.below(256) as u8);
+            judge(&damaged, ADDRESS).unwrap();
+            open(&mut damaged).unwrap();
+        }
+    }
+}
+
+#[test]
+fn each_test_alone_under_a_fitting_code() {
+    let sector = good_sector(&mut Random::new(5));
+    for bit in 0..EDC_START * 8 {
+        let place = bit / 8;
+        let mut damaged = sector.clone();
+        damaged[place] ^= 1 << (bit % 8);
+        let expected = Verdict { staerr: place < 12 || place == 15, hcei: (12..15).contains(&place) };
+        assert_eq!(judge(&with_code(damaged), ADDRESS), Ok(expected), "bit {bit}");
+    }
+}
+
+#[test]
+fn wrong_lengths_are_refused_before_bad_addresses() {
+    let mut random = Random::new(6);
+    let around = [2063, 2064, 2068, 2340, 2350, 2351, 2353, 2354, 2560, 4703, 4704, 4705, 65_536 + 2352];
+    for length in (0..=64).chain(around) {
+        let before = random.bytes(length);
+        for address in [ADDRESS, Address::new(0, 60, 0)] {
+            let mut sector = before.clone();
+            assert_eq!(seal(&mut sector, address), Err(Refusal::WrongLength), "length {length}");
+            assert_eq!(open(&mut sector), Err(Refusal::WrongLength), "length {length}");
+            assert_eq!(judge(&sector, address), Err(Refusal::WrongLength), "length {length}");
+            assert_eq!(sector, before, "length {length}");
+        }
+    }
+}
+
+/// Among them 256, which is 0 when cut to a byte, and 65,535, which is -1 when taken with a sign.
+#[test]
+fn every_address_edge() {
+    let before = good_sector(&mut Random::new(7));
+    for minute in [0, 1, 9, 10, 98, 99, 100, 255, 256, 32_768, 65_535] {
+        for second in [0, 1, 9, 10, 58, 59, 60, 99, 255, 256, 32_768, 65_535] {
+            for frame in [0, 1, 9, 10, 73, 74, 75, 99, 255, 256, 32_768, 65_535] {
+                check_address(&before, Address::new(minute, second, frame));
+            }
+        }
+    }
+}
+
+fn check_address(before: &[u8], address: Address) {
+    let valid = address.minute <= 99 && address.second <= 59 && address.frame <= 74;
+    let mut sector = before.to_vec();
+    let answer = if valid { Ok(()) } else { Err(Refusal::OutOfRange) };
+    assert_eq!(seal(&mut sector, address), answer);
+    assert_eq!(judge(before, address), answer.map(|()| Verdict { staerr: false, hcei: true }));
+    assert_eq!(sector == before, !valid, "{address:?}");
+}

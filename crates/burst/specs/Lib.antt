@@ -1,0 +1,2 @@
+-- The host's words in bursts.
+pub mod Burst

@@ -1,0 +1,4 @@
+-- Proofs of the encoding.
+pub mod Groups
+pub mod Laid
+pub mod Moved

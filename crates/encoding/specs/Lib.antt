@@ -1,0 +1,2 @@
+-- A chip's record as words.
+pub mod Words

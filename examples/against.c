@@ -1,0 +1,311 @@
+/* Holds one's own code for the chip (own.c) against the library: both are given the same random calls (calls.c), and after each their
+ * answers, the registers that both have, the interrupt line and, after a sector, every byte of the rings are compared. From the
+ * repository's folder, after `make lib`:
+ *
+ *   make examples && target/examples/against [SEED [CALLS]]
+ *
+ * It prints what happened, or the first difference with the calls before it. The calls follow from the seed and the library alone:
+ * after own.c was mended the same seed gives the same calls. Exit status: 0 no difference; 1 a difference; 2 the arguments are wrong,
+ * or something that is counted never happened, so that the comparison was too short. */
+#include <inttypes.h>
+#include <stdio.h>
+#include <stdlib.h>
+#include <string.h>
+
+#include "calls.h"
+#include "cdrom.h"
+#include "own.h"
+
+#define MOST_RING_BYTES (CDROM_MOST_BLOCKS * CDROM_BLOCK_BYTES)
+#define USUAL_CALLS 100000
+#define CALLS_OF_A_RING 1500
+#define TOLD_CALLS 8
+
+/* An answer, and the bytes that came with it: a look's, or those of a burst's words. */
+struct outcome {
+    uint32_t answer;
+    size_t length;
+    const void *bytes;
+};
+
+static struct {
+    cdrom_chip chip;
+    uint8_t ring[MOST_RING_BYTES];
+    uint16_t words[MOST_WORDS];
+} library;
+
+static struct {
+    struct own chip;
+    uint8_t ring[MOST_RING_BYTES];
+    uint16_t words[MOST_WORDS];
+} own;
+
+static struct writer writer;
+static size_t ring_bytes;
+static uint64_t seed, step;
+static struct call told[TOLD_CALLS];
+
+/* -- A call on each side ------------------------------------------------------------------------------------------------------- */
+
+static struct outcome plain(uint32_t answer)
+{
+    return (struct outcome){answer, 0, NULL};
+}
+
+static struct outcome look_by_library(void)
+{
+    size_t offset, length = cdrom_chip_look(&library.chip, library.ring, ring_bytes, &offset);
+    return (struct outcome){CDROM_DONE, length, library.ring + offset};
+}
+
+static struct outcome look_by_own(void)
+{
+    size_t offset, length = own_look(&own.chip, &offset);
+    return (struct outcome){CDROM_DONE, length, own.ring + offset};
+}
+
+static struct outcome burst_by_library(size_t count)
+{
+    size_t handed;
+    uint32_t answer = cdrom_chip_words(&library.chip, library.ring, ring_bytes, library.words, count, &handed);
+    return (struct outcome){answer, handed * sizeof library.words[0], library.words};
+}
+
+/* One's own code hands over single words; so many of them are a burst. */
+static struct outcome burst_by_own(size_t count)
+{
+    size_t handed = 0;
+    uint32_t answer = CDROM_DONE;
+    while (handed < count && CDROM_NUMBER(answer = own_word(&own.chip)) == CDROM_DONE)
+        own.words[handed++] = (uint16_t)CDROM_RESULT(answer);
+    return (struct outcome){handed > 0 ? CDROM_DONE : answer, handed * sizeof own.words[0], own.words};
+}
+
+/* An opening is tried on a record beside the chip's. */
+static struct outcome by_library(struct call call)
+{
+    cdrom_chip *chip = &library.chip, other;
+    switch (call.kind) {
+    case OPEN: return plain(cdrom_chip_open(&other, call.one));
+    case WRITE: return plain(cdrom_chip_write(chip, call.one, call.two));
+    case READ: return plain(cdrom_chip_read(chip, call.one));
+    case WINDOW: return plain(cdrom_chip_set_window(chip, call.one, call.two));
+    case EXPECT: return plain(cdrom_chip_set_expected(chip, call.one, call.two, call.three));
+    case SECTOR: return plain(cdrom_chip_sector(chip, library.ring, ring_bytes, writer.sector, sizeof writer.sector));
+    case LOOK: return look_by_library();
+    case WORD: return plain(cdrom_chip_word(chip, library.ring, ring_bytes));
+    case BURST: return burst_by_library(call.one);
+    case COMMAND: return plain(cdrom_chip_command(chip, call.one));
+    case STATUS: return plain(cdrom_chip_status(chip));
+    default: return plain(cdrom_chip_srst(chip));
+    }
+}
+
+static struct outcome by_own(struct call call)
+{
+    struct own *chip = &own.chip, other;
+    switch (call.kind) {
+    case OPEN: return plain(own_open(&other, own.ring, call.one));
+    case WRITE: return plain(own_write(chip, call.one, call.two));
+    case READ: return plain(own_read(chip, call.one));
+    case WINDOW: return plain(own_set_window(chip, call.one, call.two));
+    case EXPECT: return plain(own_set_expected(chip, call.one, call.two, call.three));
+    case SECTOR: return plain(own_sector(chip, writer.sector));
+    case LOOK: return look_by_own();
+    case WORD: return plain(own_word(chip));
+    case BURST: return burst_by_own(call.one);
+    case COMMAND: return plain(own_command(chip, call.one));
+    case STATUS: return plain(own_status(chip));
+    default: return plain(own_srst(chip));
+    }
+}
+
+/* -- Comparing ----------------------------------------------------------------------------------------------------------------- */
+
+static int differ(const char *what, uint64_t by_library, uint64_t by_own)
+{
+    if (by_library == by_own)
+        return 0;
+    printf("against: seed %" PRIu64 ", step %" PRIu64 ", a ring of %u blocks: %s: library %" PRIu64 ", own %" PRIu64 "\n", seed, step,
+           writer.blocks, what, by_library, by_own);
+    puts("  the calls up to there, the last one last:");
+    for (uint64_t place = step < TOLD_CALLS ? 1 : step - TOLD_CALLS + 1; place <= step; place++)
+        print_call(told[place % TOLD_CALLS]);
+    return 1;
+}
+
+static int bytes_differ(const char *name, const uint8_t *by_library, const uint8_t *by_own, size_t length)
+{
+    if (length == 0 || memcmp(by_library, by_own, length) == 0)
+        return 0;
+    size_t place = 0;
+    while (by_library[place] == by_own[place])
+        place++;
+    char what[60];
+    snprintf(what, sizeof what, "%s %zu", name, place);
+    return differ(what, by_library[place], by_own[place]);
+}
+
+static int outcomes_differ(struct outcome by_library, struct outcome by_own)
+{
+    return differ("reply number", CDROM_NUMBER(by_library.answer), CDROM_NUMBER(by_own.answer)) ||
+           differ("result", CDROM_RESULT(by_library.answer), CDROM_RESULT(by_own.answer)) ||
+           differ("length of the look or burst", by_library.length, by_own.length) ||
+           bytes_differ("of the look or burst byte", by_library.bytes, by_own.bytes, by_library.length);
+}
+
+static int registers_differ(void)
+{
+    static const uint16_t registers[] = {CDROM_TCC,   CDROM_BUFC,   CDROM_TARSTA, CDROM_TBL,   CDROM_LDDBL, CDROM_STATUS,
+                                         CDROM_MBTC0, CDROM_ASCTRL, CDROM_BICCTL, CDROM_ACCTL, CDROM_TTC};
+    for (size_t place = 0; place < sizeof registers / sizeof registers[0]; place++) {
+        char what[40];
+        snprintf(what, sizeof what, "register %02Xh after it", registers[place]);
+        if (differ(what, standing(&library.chip, registers[place]), CDROM_RESULT(own_read(&own.chip, registers[place]))))
+            return 1;
+    }
+    return differ("interrupt line after it", cdrom_chip_irq(&library.chip), own.chip.hirq);
+}
+
+/* -- What happened ------------------------------------------------------------------------------------------------------------- */
+
+enum { GOOD, LAST, BAD_CODE, BAD_ADDRESS, RESTARTS, SKIPS, STARTS, LONG_STARTS, WORDS, TAKEN, AROUND, ENDED, ABORTS, LOOKS, REFUSED };
+static const char *const names[] = {"good sectors",
+                                    "good sectors at 99:59:74",
+                                    "sectors with STAERR",
+                                    "sectors with HCEI",
+                                    "restarts after a bad sector",
+                                    "skips of blocks",
+                                    "starts",
+                                    "starts of 32 blocks with ATLIM 0",
+                                    "words",
+                                    "blocks taken",
+                                    "times around the ring",
+                                    "transfers ended",
+                                    "aborts within a block",
+                                    "looks with bytes",
+                                    "refusals with 1",
+                                    "refusals with 2",
+                                    "refusals with 3",
+                                    "refusals with 4",
+                                    "refusals with 5",
+                                    "refusals with 6",
+                                    "refusals with 7, DECEN low",
+                                    "refusals with 8, held",
+                                    "refusals with 9, at the stop"};
+#define HAPPENINGS (sizeof names / sizeof names[0])
+static uint64_t happened[HAPPENINGS];
+
+struct facts {
+    unsigned t, tcc;
+    int held, is_running;
+    uint16_t place;
+};
+
+static struct facts facts_now(void)
+{
+    return (struct facts){
+        .t = standing(&library.chip, CDROM_TBL),
+        .tcc = standing(&library.chip, CDROM_TCC),
+        .held = writer.held,
+        .is_running = (standing(&library.chip, CDROM_STATUS) & CDROM_DRQ) != 0,
+        .place = writer.place,
+    };
+}
+
+static void count_write(struct call call, struct facts before, struct facts after)
+{
+    int is_start = !before.is_running && after.is_running;
+    int is_unlimited = (standing(&library.chip, CDROM_ACCTL) & CDROM_ATLIM) == 0 && standing(&library.chip, CDROM_TTC) > 0;
+    happened[RESTARTS] += call.one == CDROM_CTRL0 && before.held && !after.held;
+    happened[SKIPS] += call.one == CDROM_SKIPC && after.tcc < before.tcc;
+    happened[STARTS] += is_start;
+    happened[LONG_STARTS] += is_start && is_unlimited && standing(&library.chip, CDROM_MBTC0) == 31;
+}
+
+static void count(struct call call, struct outcome outcome, struct facts before, struct facts after)
+{
+    uint32_t number = CDROM_NUMBER(outcome.answer), result = CDROM_RESULT(outcome.answer);
+    int is_word = call.kind == WORD || call.kind == BURST;
+    if (number != CDROM_DONE) {
+        happened[REFUSED + number - 1]++;
+        return;
+    }
+    happened[GOOD] += call.kind == SECTOR && result == 0;
+    happened[LAST] += call.kind == SECTOR && result == 0 && call.one == 99 && call.two == 59 && call.three == 74;
+    happened[BAD_CODE] += call.kind == SECTOR && result & CDROM_STAERR;
+    happened[BAD_ADDRESS] += call.kind == SECTOR && result & CDROM_HCEI;
+    if (call.kind == WRITE)
+        count_write(call, before, after);
+    happened[WORDS] += call.kind == WORD ? 1 : call.kind == BURST ? outcome.length / 2 : 0;
+    happened[TAKEN] += is_word ? before.tcc - after.tcc : 0;
+    happened[AROUND] += after.t < before.t;
+    happened[ENDED] += is_word && before.is_running && !after.is_running;
+    happened[ABORTS] += call.kind == SRST && before.place > 0;
+    happened[LOOKS] += call.kind == LOOK && outcome.length > 0;
+}
+
+/* True where something never happened. */
+static int report(uint64_t calls)
+{
+    int is_short = 0;
+    for (size_t place = 0; place < HAPPENINGS; place++) {
+        printf("%9" PRIu64 "  %s\n", happened[place], names[place]);
+        is_short |= happened[place] == 0;
+    }
+    printf("against: seed %" PRIu64 ", %" PRIu64 " calls, no difference\n", seed, calls);
+    if (is_short)
+        puts("against: something never happened: take more calls");
+    return is_short;
+}
+
+/* -- The run ------------------------------------------------------------------------------------------------------------------- */
+
+/* A new ring on both sides, over the same stale bytes. */
+static int open_both(void)
+{
+    uint16_t blocks = draw_ring(&writer);
+    ring_bytes = (size_t)blocks * CDROM_BLOCK_BYTES;
+    memset(library.ring, blocks, ring_bytes);
+    memset(own.ring, blocks, ring_bytes);
+    return differ("opening", cdrom_chip_open(&library.chip, blocks), own_open(&own.chip, own.ring, blocks)) || registers_differ();
+}
+
+/* One call on both sides; true where they differ. */
+static int call_both(void)
+{
+    struct facts before = facts_now();
+    struct call call = draw_call(&writer, &library.chip);
+    told[++step % TOLD_CALLS] = call;
+    struct outcome outcome = by_library(call), owns = by_own(call);
+    note_answer(&writer, call, outcome.answer, call.kind == WORD ? 1 : call.kind == BURST ? outcome.length / 2 : 0);
+    count(call, outcome, before, facts_now());
+    return outcomes_differ(outcome, owns) || registers_differ() ||
+           (call.kind == SECTOR && bytes_differ("the ring's byte", library.ring, own.ring, ring_bytes));
+}
+
+static int number_of(const char *text, uint64_t *number)
+{
+    char *end;
+    *number = strtoull(text, &end, 10);
+    return *text >= '0' && *text <= '9' && *end == '\0';
+}
+
+int main(int count_of_arguments, char **arguments)
+{
+    uint64_t calls = USUAL_CALLS;
+    seed = 1;
+    if (count_of_arguments > 3 || (count_of_arguments > 1 && !number_of(arguments[1], &seed)) ||
+        (count_of_arguments > 2 && !number_of(arguments[2], &calls))) {
+        fputs("usage: against [SEED [CALLS]]\n", stderr);
+        return 2;
+    }
+    start_writer(&writer, seed);
+    while (step < calls) {
+        if (step % CALLS_OF_A_RING == 0 && open_both())
+            return 1;
+        if (call_both())
+            return 1;
+    }
+    return report(calls) ? 2 : 0;
+}

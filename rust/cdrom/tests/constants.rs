@@ -1,0 +1,92 @@
+//! Every constant and reply number of `include/cdrom.h` stands in the crate with the same value, and no other does.
+//! Both are read as text, so that neither can gain or lose a line unseen.
+
+use cdrom::Refusal;
+use std::collections::BTreeMap;
+
+const HEADER: &str = include_str!("../../../include/cdrom.h");
+const SOURCES: [&str; 7] = [
+    include_str!("../src/bench.rs"),
+    include_str!("../src/chip.rs"),
+    include_str!("../src/lib.rs"),
+    include_str!("../src/raw.rs"),
+    include_str!("../src/refusal.rs"),
+    include_str!("../src/registers.rs"),
+    include_str!("../src/sectors.rs"),
+];
+
+/// The reply numbers by their names in the header; 0 is no refusal, and has none in the crate.
+const DONE: &str = "DONE";
+const REFUSALS: [&str; 9] =
+    ["WRONG_LENGTH", "NO_REGISTER", "OUT_OF_RANGE", "BARRED", "SWITCHES", "TOO_FEW", "DECODING_OFF", "HELD", "NO_ROOM"];
+/// Another name for a reply number.
+const ALIAS: &str = "BAD_ADDRESS";
+
+type Constants = BTreeMap<String, u64>;
+
+/// Each `#define` of a value; those with parameters take an answer apart, and the guard has no value.
+fn header() -> Constants {
+    let names = HEADER.lines().filter_map(|line| line.strip_prefix("#define CDROM_"));
+    let pairs = names.filter_map(|rest| rest.split_once(' ')).filter(|(name, _)| !name.contains('('));
+    let values = pairs.filter(|&(name, _)| name != ALIAS).map(|(name, rest)| (name, first_word(rest)));
+    distinct(values.map(|(name, value)| (name.to_string(), number(value))))
+}
+
+/// Each public constant of the crate's sources.
+fn declared() -> Constants {
+    let lines = SOURCES.iter().flat_map(|source| source.lines());
+    distinct(lines.filter_map(|line| line.strip_prefix("pub const ")).map(constant))
+}
+
+fn constant(declaration: &str) -> (String, u64) {
+    let (name, rest) = declaration.split_once(": ").expect("a name and a type");
+    let value = rest.split_once(" = ").and_then(|(_, value)| value.strip_suffix(';')).expect("a value");
+    (name.to_string(), number(value))
+}
+
+fn first_word(text: &str) -> &str {
+    text.split_whitespace().next().expect("a value")
+}
+
+fn number(text: &str) -> u64 {
+    let read = match text.strip_prefix("0x") {
+        Some(digits) => u64::from_str_radix(digits, 16),
+        None => text.parse(),
+    };
+    read.unwrap_or_else(|_| panic!("{text} is no number"))
+}
+
+fn distinct(pairs: impl Iterator<Item = (String, u64)>) -> Constants {
+    let mut constants = Constants::new();
+    for (name, value) in pairs {
+        assert_eq!(constants.insert(name.clone(), value), None, "{name} stands twice");
+    }
+    constants
+}
+
+/// `WRONG_LENGTH` of the header is `WrongLength` here.
+fn camel(name: &str) -> String {
+    name.split('_').map(|word| word[..1].to_string() + &word[1..].to_lowercase()).collect()
+}
+
+#[test]
+fn constants() {
+    let mut header = header();
+    for reply in REFUSALS.iter().chain([&DONE]) {
+        header.remove(*reply).expect("a reply number of the header");
+    }
+    assert!(header.len() > 60, "only {} constants were found", header.len());
+    assert_eq!(declared(), header);
+}
+
+#[test]
+fn reply_numbers() {
+    let header = header();
+    assert_eq!(header[DONE], 0);
+    for (name, number) in REFUSALS.into_iter().zip(1..) {
+        assert_eq!(header[name], u64::from(number), "{name}");
+        let refusal = Refusal::from_number(number).expect("a refusal");
+        assert_eq!(format!("{refusal:?}"), camel(name));
+    }
+    assert!(HEADER.contains(&format!("#define CDROM_{ALIAS} CDROM_OUT_OF_RANGE\n")));
+}

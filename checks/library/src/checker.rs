@@ -10,7 +10,7 @@ use crate::memory::Memory;
 use crate::noting::Step;
 use crate::record::{self, Record};
 use crate::soundness::faults;
-use crate::twins::{compare_records, Twins};
+use crate::state::{compare_records, State};
 use model::Random;
 
 pub struct Checker<'a, L: Library> {
@@ -26,10 +26,10 @@ impl<'a, L: Library> Checker<'a, L> {
         Checker { library, random: Random::new(seed), happenings: Happenings::default(), calls: 0 }
     }
 
-    /// Makes the call on both and lets the twins go on by it.
-    pub fn make(&mut self, twins: &mut Twins, memory: &mut Memory, call: Call) -> Result<(), Box<Difference>> {
+    /// Makes the call on both and lets the state go on by it.
+    pub fn make(&mut self, state: &mut State, memory: &mut Memory, call: Call) -> Result<(), Box<Difference>> {
         self.calls += 1;
-        let before = *twins;
+        let before = *state;
         let mut buffers = Buffers::stale(&call, &mut self.random);
         let lent = call.lent().unwrap_or(0);
         let wanted = before.wanted(&call, buffers.for_model(memory.for_model(lent)));
@@ -40,8 +40,8 @@ impl<'a, L: Library> Checker<'a, L> {
             .and_then(|()| self.compare_irq(&mut left))
             .and_then(|()| buffers.compare())
             .and_then(|()| compare_memory(memory, &call, &before.record, &found));
-        twins.go_on(&call, &wanted, left);
-        let step = Step { call: &call, answer: &wanted.answer, before: &before, after: twins };
+        state.go_on(&call, &wanted, left);
+        let step = Step { call: &call, answer: &wanted.answer, before: &before, after: state };
         compared.and_then(|()| agree_with_paper(&step)).map_err(|part| Difference {
             call_number: self.calls,
             call: format!("{call:?}"),
@@ -62,11 +62,11 @@ impl<'a, L: Library> Checker<'a, L> {
     }
 
     /// At the end of a run.
-    pub fn compare_whole(&self, memory: &Memory, twins: &Twins) -> Result<(), Box<Difference>> {
+    pub fn compare_whole(&self, memory: &Memory, state: &State) -> Result<(), Box<Difference>> {
         let compared = differing_byte(memory, memory.whole_difference());
         compared.map_err(|part| {
             let call = "the whole memory after it".to_string();
-            Box::new(Difference { call_number: self.calls, call, record: twins.record, answers: None, part })
+            Box::new(Difference { call_number: self.calls, call, record: state.record, answers: None, part })
         })
     }
 }

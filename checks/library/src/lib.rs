@@ -2,7 +2,7 @@
 //! archive and `model` are given the same random calls, and all that a call answers and leaves
 //! is compared after it.
 
-mod blind;
+mod any_calls;
 mod buffers;
 mod call;
 mod checker;
@@ -17,11 +17,11 @@ mod noting;
 pub mod record;
 mod run;
 mod sectors;
+mod sequences;
 mod soundness;
 mod stand_in;
+mod state;
 mod steering;
-mod stories;
-mod twins;
 
 pub use call::{Answer, Call};
 pub use difference::Difference;

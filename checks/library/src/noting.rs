@@ -3,7 +3,7 @@
 use crate::call::{Answer, Call};
 use crate::happenings::{answer_name, read_name, ring_name, write_name, Happenings, WRONG_RINGS};
 use crate::sectors::{Damage, Sector, CUT_TO_FIT};
-use crate::twins::Twins;
+use crate::state::State;
 use ecma130::Address;
 use model::{Chip, BLOCK_BYTES};
 
@@ -11,8 +11,8 @@ use model::{Chip, BLOCK_BYTES};
 pub struct Step<'a> {
     pub call: &'a Call,
     pub answer: &'a Answer,
-    pub before: &'a Twins,
-    pub after: &'a Twins,
+    pub before: &'a State,
+    pub after: &'a State,
 }
 
 /// An accepted call between two chips.
@@ -42,7 +42,7 @@ impl Happenings {
         }
     }
 
-    fn note_opening(&mut self, blocks: u16, before: &Twins) {
+    fn note_opening(&mut self, blocks: u16, before: &State) {
         if [3, 4, 25, 26, 254, 255].contains(&blocks) {
             self.count(&format!("ring of {blocks} blocks opened"));
         }

@@ -14,8 +14,8 @@ use crate::loading::{all_but_one_in_range, any_words, flipped, in_range};
 use crate::memory::Memory;
 use crate::record::{Record, BLOCKS};
 use crate::soundness::is_sound;
+use crate::state::State;
 use crate::steering::{ring_bytes, Chooser};
-use crate::twins::Twins;
 use model::{Chip, Random, BLOCK_BYTES};
 
 /// Calls of the line between two records that are loaded, on average; transfers and receptions are
@@ -41,7 +41,7 @@ struct Run<'a, L: Library> {
     memory: Memory,
     /// For loaded records, so that the line's ring is as the line has left it.
     other_memory: Memory,
-    twins: Twins,
+    state: State,
     limit: u64,
     /// How often each change was made; the rarest that can be made comes next.
     spoilings: Vec<u64>,
@@ -55,28 +55,28 @@ impl<'a, L: Library> Run<'a, L> {
         let checker = Checker::new(library, further_seed());
         let (line, walker) = (Chooser::new(further_seed()), Chooser::new(further_seed()));
         let (memory, other_memory) = (Memory::stale(&mut random), Memory::stale(&mut random));
-        let twins = Twins::loaded(any_words(&mut random));
+        let state = State::loaded(any_words(&mut random));
         // Runs are not to begin with the same changes.
         let spoilings = SPOILINGS.iter().map(|_| random.below(2)).collect();
         let neighbours = NEIGHBOURS.iter().map(|_| random.below(2)).collect();
-        Run { checker, random, line, walker, memory, other_memory, twins, limit, spoilings, neighbours }
+        Run { checker, random, line, walker, memory, other_memory, state, limit, spoilings, neighbours }
     }
 
     fn run(mut self) -> Result<Happenings, Box<Difference>> {
         if self.limit > 0 {
             let opening = self.line.opening();
-            self.checker.make(&mut self.twins, &mut self.memory, opening)?;
+            self.checker.make(&mut self.state, &mut self.memory, opening)?;
         }
         while self.goes_on() {
             let chip = self.line_chip();
             let call = self.line.next(&chip);
-            self.checker.make(&mut self.twins, &mut self.memory, call)?;
+            self.checker.make(&mut self.state, &mut self.memory, call)?;
             if self.is_time_to_load() {
                 self.load()?;
             }
         }
-        self.checker.compare_whole(&self.memory, &self.twins)?;
-        self.checker.compare_whole(&self.other_memory, &self.twins)?;
+        self.checker.compare_whole(&self.memory, &self.state)?;
+        self.checker.compare_whole(&self.other_memory, &self.state)?;
         Ok(self.checker.happenings)
     }
 
@@ -91,11 +91,11 @@ impl<'a, L: Library> Run<'a, L> {
     }
 
     fn line_chip(&self) -> Chip {
-        self.twins.chip.expect("the line is sound after each call")
+        self.state.chip.expect("the line is sound after each call")
     }
 
     fn load(&mut self) -> Result<(), Box<Difference>> {
-        let record = self.twins.record;
+        let record = self.state.record;
         let (kind, words) = match self.random.below(12) {
             0..=4 => return self.spoil(),
             5..=6 => return self.go_to_a_limit(),
@@ -112,7 +112,7 @@ impl<'a, L: Library> Run<'a, L> {
     }
 
     fn spoil(&mut self) -> Result<(), Box<Difference>> {
-        let record = self.twins.record;
+        let record = self.state.record;
         let Some((change, spoiled)) = rarest_change(&SPOILINGS, &mut self.spoilings, &record) else {
             return Ok(());
         };
@@ -121,7 +121,7 @@ impl<'a, L: Library> Run<'a, L> {
     }
 
     fn go_to_a_limit(&mut self) -> Result<(), Box<Difference>> {
-        let record = self.twins.record;
+        let record = self.state.record;
         let Some((change, neighbour)) = rarest_change(&NEIGHBOURS, &mut self.neighbours, &record) else {
             return Ok(());
         };
@@ -131,18 +131,18 @@ impl<'a, L: Library> Run<'a, L> {
 
     /// Openings over words of any values. On what a refused one leaves every call is refused.
     fn open(&mut self) -> Result<(), Box<Difference>> {
-        let mut twins = Twins::loaded(any_words(&mut self.random));
+        let mut state = State::loaded(any_words(&mut self.random));
         let opening = self.walker.opening();
-        self.make_aside(&mut twins, opening)?;
-        let mut twins = Twins::loaded(any_words(&mut self.random));
+        self.make_aside(&mut state, opening)?;
+        let mut state = State::loaded(any_words(&mut self.random));
         let blocks = self.random.pick(&NO_RINGS);
-        self.make_aside(&mut twins, Call::Open { blocks })?;
-        self.probe(&loaded_name(REFUSED_OPENING), twins.record)
+        self.make_aside(&mut state, Call::Open { blocks })?;
+        self.probe(&loaded_name(REFUSED_OPENING), state.record)
     }
 
     /// Every kind of call on the record, each time as it was; then a walk, if it is sound.
     fn probe(&mut self, name: &str, record: Record) -> Result<(), Box<Difference>> {
-        let start = Twins::loaded(record);
+        let start = State::loaded(record);
         let chip = start.chip.unwrap_or(self.line_chip());
         for call in self.walker.every_call(&chip) {
             let fitting = if start.chip.is_some() { call } else { call.with_lent(lent_to(&record, &chip)) };
@@ -153,23 +153,23 @@ impl<'a, L: Library> Run<'a, L> {
         self.walk(start)
     }
 
-    fn walk(&mut self, mut twins: Twins) -> Result<(), Box<Difference>> {
+    fn walk(&mut self, mut state: State) -> Result<(), Box<Difference>> {
         for _ in 0..WALK {
-            let Some(chip) = twins.chip else {
+            let Some(chip) = state.chip else {
                 break;
             };
             let call = self.walker.next(&chip);
-            self.make_aside(&mut twins, call)?;
+            self.make_aside(&mut state, call)?;
         }
         Ok(())
     }
 
     /// A call beside the line, unless all calls of the run are made.
-    fn make_aside(&mut self, twins: &mut Twins, call: Call) -> Result<(), Box<Difference>> {
+    fn make_aside(&mut self, state: &mut State, call: Call) -> Result<(), Box<Difference>> {
         if !self.goes_on() {
             return Ok(());
         }
-        self.checker.make(twins, &mut self.other_memory, call)
+        self.checker.make(state, &mut self.other_memory, call)
     }
 }
 

@@ -3,13 +3,13 @@
 use crate::call::{Answer, Call};
 use crate::library::{Lent, Library};
 use crate::record::{self, Record};
-use crate::twins::{refused_opening, Twins};
+use crate::state::{refused_opening, State};
 
 pub struct StandIn;
 
 impl Library for StandIn {
     fn call(&mut self, record: &mut Record, call: &Call, lent: Lent) -> Answer {
-        let wanted = Twins::loaded(*record).wanted(call, lent);
+        let wanted = State::loaded(*record).wanted(call, lent);
         match (call, &wanted.chip) {
             (Call::Open { .. }, None) => *record = refused_opening(),
             (Call::Words { count: 0, .. }, _) => {}

@@ -1,5 +1,5 @@
 //! The next call of a run. It is chosen by looking at the model's chip, so that
-//! what is asked is often possible: blind calls would hardly ever get as far as a transfer.
+//! what is asked is often possible: calls at random would hardly ever get as far as a transfer.
 
 use crate::call::Call;
 use crate::memory::Memory;
@@ -65,7 +65,7 @@ impl Chooser {
         // A long filling is to reach its end now and then.
         let steadiness = if matches!(self.plan.front(), Some(Wish::Fill(_))) { 300 } else { 20 };
         if self.random.one_in(steadiness) {
-            return self.blind(chip);
+            return self.any_call(chip);
         }
         if let Some(call) = self.planned(chip) {
             return call;

@@ -11,7 +11,7 @@ use model::Chip;
 const UNSOUND: u32 = 1;
 
 #[derive(Clone, Copy)]
-pub struct Twins {
+pub struct State {
     pub record: Record,
     /// An unsound record stands for no chip.
     pub chip: Option<Chip>,
@@ -25,10 +25,10 @@ pub struct Wanted {
     pub chip: Option<Chip>,
 }
 
-impl Twins {
-    pub fn loaded(record: Record) -> Twins {
+impl State {
+    pub fn loaded(record: Record) -> State {
         let chip = is_sound(&record).then(|| record::decoded(&record));
-        Twins { record, chip, reached: false }
+        State { record, chip, reached: false }
     }
 
     /// Runs the call on the model. With a count of 0 a burst asks nothing, whatever the record is.

@@ -11,7 +11,7 @@ const REGISTERS: [u16; 25] = [
 ];
 
 impl Chooser {
-    pub(crate) fn blind(&mut self, chip: &Chip) -> Call {
+    pub(crate) fn any_call(&mut self, chip: &Chip) -> Call {
         match self.random.below(24) {
             0..=2 => Call::Read { reg: self.any_register() },
             3..=12 => write(self.any_register(), self.any_value()),
@@ -19,12 +19,12 @@ impl Chooser {
             14 => Call::Words { lent: ring_bytes(chip), count: self.random.below(5) as usize },
             15 => self.look(chip),
             16 => self.sector(chip),
-            _ => self.blind_named(),
+            _ => self.any_named(),
         }
     }
 
     /// One of the calls that are lent no memory.
-    fn blind_named(&mut self) -> Call {
+    fn any_named(&mut self) -> Call {
         match self.random.below(9) {
             0 => Call::SetBlock { block: self.any_number() },
             1 => Call::SetWindow { offset: self.any_number(), words: self.any_number() },

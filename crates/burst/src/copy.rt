@@ -1,16 +1,9 @@
 // Words of the ring copied into lent memory.
-use numbers::wide;
+use slices::word_at;
 ghost use mathlib.Core.Path.{_≡_};
-ghost use Prim.Native.Nat.{_+_, _*_, _<_, _≤_};
+ghost use Prim.Native.Nat.{_+_, _*_, _≤_};
 ghost use lib.ListN.{length};
-ghost use Rattle.laws.specs.Bytes.{word-at, words-at};
-
-fn word(ring: &[u8], at: usize) -> u16
-    requires { ⌜ at + 1 < length (now ring) ⌝ }
-    ensures { λ r. ⌜ r ≡ word-at (now (ring .entry)) at ⌝ }
-{
-    wide(ring[at]) + 256 * wide(ring[at + 1])
-}
+ghost use Rattle.laws.specs.Bytes.{words-at};
 
 // Fills `out` with the words from byte `from` on, the first byte of each low.
 pub(crate) fn copy_words(ring: &[u8], from: usize, out: &mut [u16])
@@ -19,7 +12,7 @@ pub(crate) fn copy_words(ring: &[u8], from: usize, out: &mut [u16])
 {
     let mut i: usize = 0;
     while i < out.len() {
-        out[i] = word(ring, from + 2 * i);
+        out[i] = word_at(ring, from + 2 * i);
         i += 1;
     }
 }

@@ -1,7 +1,7 @@
 // The lent memory: a sector is received into its block, and a word of a block is read.
-use numbers::wide;
 use sector::Address;
 use sector::Judgement;
+use slices::word_at;
 ghost use mathlib.Core.Path.{_≡_};
 ghost use mathlib.Core.Bool.{true};
 ghost use Prim.Native.Nat.{_+_, _*_, _<_, _≤_};
@@ -32,5 +32,5 @@ pub fn word_of(ring: &[u8], t: u16, offset: u16, place: u16) -> u16
     ensures { λ r. ⌜ r ≡ word-at (now (ring .entry)) (base t + offset + 2 * place) ⌝ }
 {
     let a = t as usize * 2560 + offset as usize + 2 * place as usize;
-    wide(ring[a]) + 256 * wide(ring[a + 1])
+    word_at(ring, a)
 }

@@ -1,6 +1,9 @@
 // Slices of bytes: what is not about CD-ROMs.
+use numbers::wide;
 ghost use mathlib.Core.Path.{_≡_};
+ghost use Prim.Native.Nat.{_+_, _<_};
 ghost use lib.ListN.{length, replicate};
+ghost use Rattle.laws.specs.Bytes.{word-at};
 ghost use Rattle.laws.specs.Same.{same};
 
 // Whether two slices hold the same bytes.
@@ -31,4 +34,13 @@ pub fn fill(bytes: &mut [u8], byte: u8)
         bytes[i] = byte;
         i += 1;
     }
+}
+
+// Two bytes as a word, the first low.
+// Ruled out: one that gives the first byte as the high one, and one that gives the same word at every place.
+pub fn word_at(bytes: &[u8], at: usize) -> u16
+    requires { ⌜ at + 1 < length (now bytes) ⌝ }
+    ensures { λ r. ⌜ r ≡ word-at (now (bytes .entry)) at ⌝ }
+{
+    wide(bytes[at]) + 256 * wide(bytes[at + 1])
 }

@@ -18,14 +18,14 @@ abbrev μ-loop : tie.MeasureT-loop
 loop-holds : tie.Need-loop-holds Inv-loop μ-loop
 loop-holds c = (omega arith, refl, refl)
 
-mul-word : tie.Need-mul-word Inv-loop μ-loop
-mul-word c = omega arith
+mul-word-at : tie.Need-mul-word-at Inv-loop μ-loop
+mul-word-at c = omega arith
 
-add-word : tie.Need-add-word Inv-loop μ-loop
-add-word c = omega arith
+add-word-at : tie.Need-add-word-at Inv-loop μ-loop
+add-word-at c = omega arith
 
-word-requires : tie.Need-word-requires Inv-loop μ-loop
-word-requires c κs = omega arith
+word-at-requires : tie.Need-word-at-requires Inv-loop μ-loop
+word-at-requires c κs = omega arith
 
 mul-out : tie.Need-mul-out Inv-loop μ-loop
 mul-out c = omega arith
@@ -41,14 +41,14 @@ loop-less c = omega arith
 
 loop-again : tie.Need-loop-again Inv-loop μ-loop
 loop-again c =
-    let w = c .word .ensures in
+    let w = c .word-at .ensures in
     let l = c .before .before .loop in
     let a = c .before .before .before .before .before .args in
     let n = length (a .out .now) in
     let h : l .i < length (l .out) = omega arith in
     let k : l .i < n = omega arith in (
       omega arith,
-      grow (words-at (a .ring .now) (a .from) n) (l .out) (l .i) (c .word .result) h (simp words-length k) (l .inv .1) (w ∙ sym (words-one (a .ring .now) (a .from) n (l .i) k)),
+      grow (words-at (a .ring .now) (a .from) n) (l .out) (l .i) (c .word-at .result) h (simp words-length k) (l .inv .1) (w ∙ sym (words-one (a .ring .now) (a .from) n (l .i) k)),
       simp length-set (l .inv .2),
     )
 
@@ -70,9 +70,9 @@ copy-words-spec =
     Inv-loop
     μ-loop
     loop-holds
-    mul-word
-    add-word
-    word-requires
+    mul-word-at
+    add-word-at
+    word-at-requires
     mul-out
     slice-write-out
     add-i

@@ -9,8 +9,8 @@ fn published_check_value() {
 }
 
 #[test]
-fn every_length_to_3000() {
-    let bytes = Random::new(1).bytes(3000);
+fn every_length_to_6000() {
+    let bytes = Random::new(1).bytes(6000);
     for length in 0..=bytes.len() {
         assert_eq!(cdrom::edc(&bytes[..length]), edc_bitwise(&bytes[..length]), "length {length}");
     }

@@ -1,24 +1,17 @@
 -- A change of exactly one byte changes the code. Assumes nothing.
-use mathlib.Core.Path.{_≡_, sym, ap, _∙_}
+use mathlib.Core.Path.{_≡_, sym, _∙_}
 use mathlib.Core.List.{List, [], _∷_}
 use Prim.Native.Nat.{ℕ, zero, suc, _*_, _^_, _<_}
 use native.Mathlib.Nat.{not-suc-le-zero, le-of-suc-le-suc}
 use native.Mathlib.Omega.{arith}
 use lib.ListN.{length, getD, set}
-use lib.Bits.{bitXor, xor-lt, xor-comm}
+use lib.Bits.{bitXor, xor-lt}
 use Rattle.laws.specs.Bytes.{Bytes}
-use Rattle.laws.proofs.Xor.{xor-cancel}
+use Rattle.laws.proofs.Cancel.{drop-left, drop-right}
 use Rattle.edc.specs.Edc.{fed, edc}
-use Rattle.edc.specs.Lanes.{shifts}
+use Rattle.edc.specs.Fold.{shifts}
 use Rattle.edc.proofs.Shifts.{fed-xor, shifts-only}
 use Rattle.edc.proofs.Laws.{edc-from, fed-lt}
-
--- the same operand on the left of both may go
-drop-left : (r a b : ℕ) → bitXor r a ≡ bitXor r b → a ≡ b
-drop-left r a b e = sym (xor-cancel a r) ∙ ap (λ (x : ℕ). bitXor x r) (xor-comm a r ∙ e ∙ xor-comm r b) ∙ xor-cancel b r
-
-drop-right : (r a b : ℕ) → bitXor a r ≡ bitXor b r → a ≡ b
-drop-right r a b e = drop-left r a b (xor-comm r a ∙ e ∙ xor-comm b r)
 
 -- invertible: the register before a run follows from the register after it
 pub edc-only : (p q : ℕ) (s : List ℕ) → Bytes s → p < 2 ^ 32 → q < 2 ^ 32 → edc p s ≡ edc q s → p ≡ q

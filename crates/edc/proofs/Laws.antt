@@ -12,7 +12,7 @@ use lib.Bits.{bitXor, differ, xor-zero-r, xor-lt}
 use Rattle.laws.specs.Bytes.{Bytes}
 use Rattle.laws.proofs.Xor.{xor-assoc, differ-lt, odd-lt}
 use Rattle.edc.specs.Edc.{feedback, feedback-is, fed1, fed, edc}
-use Rattle.edc.specs.Lanes.{shifts}
+use Rattle.edc.specs.Fold.{shifts}
 use Rattle.edc.proofs.Shifts.{fed-xor, shifts-xor, shifts-add}
 
 -- a run is fed from what is left of it

@@ -2,6 +2,10 @@
 pub mod Shifts
 pub mod Laws
 pub mod Change
-pub mod Interleave
-pub mod Copy
-pub mod Rule
+pub mod Folds
+pub mod Runs
+pub mod Ring
+pub mod Moved
+pub mod Halves
+pub mod Octets
+pub mod Quotient

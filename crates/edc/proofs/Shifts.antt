@@ -1,16 +1,18 @@
--- The register moved on with no data: linear over xor, and invertible, since the generator's lowest coefficient is 1.
+-- The register moved on with no data: linear over xor, of 32 bits, and invertible, since the generator's lowest coefficient is 1.
 -- Assumes nothing.
 use mathlib.Core.Path.{_≡_, refl, sym, ap, ap₂, _∙_, subst}
-use Prim.Native.Nat.{ℕ, zero, suc, _+_, _*_, _/_, _%_, _^_, _<_}
-use native.Mathlib.Nat.{zero-mul, one-mul, mul-one, zero-add, suc-add, mod-lt}
+use Prim.Native.Nat.{ℕ, zero, suc, _+_, _*_, _/_, _%_, _^_, _<_, _≤_}
+use native.Mathlib.Nat.{zero-mul, one-mul, mul-one, zero-add, suc-add, mod-lt, add-comm, lt-of-lt-of-le}
 use native.Mathlib.Numerals.{add-one}
 use native.Mathlib.Omega.{arith}
 use lib.Arith.{lt-one}
-use lib.Pow.{split, pow-pos, shr-lt}
-use lib.Bits.{bitXor, differ, xor-zero-l, xor-zero-r, xor-self, xor-comm, xor-lt, xor-shifted, shifted-half, shifted-even}
-use Rattle.laws.proofs.Xor.{xor-half, xor-odd, xor-swap, xor-four, xor-cancel, odd-lt, past}
+use lib.Pow.{split, pow-pos, pow-mono, shr-lt}
+use lib.Bits.{bitXor, differ, xor-zero-r, xor-self, xor-comm, xor-lt, xor-shifted, shifted-half, shifted-even}
+use Rattle.laws.proofs.Xor.{xor-half, xor-odd, xor-swap, xor-four, odd-lt}
+use Rattle.laws.proofs.Sum.{times}
+use Rattle.laws.proofs.Cancel.{same-of-xor}
 use Rattle.edc.specs.Edc.{feedback, feedback-is, fed1, fed}
-use Rattle.edc.specs.Lanes.{shift, shifts}
+use Rattle.edc.specs.Fold.{shift, shifts}
 
 -- a data byte may be xored into the register first
 pub fed-xor : (k r b : ℕ) → b < 2 ^ k → fed k r b ≡ shifts k (bitXor r b)
@@ -21,13 +23,6 @@ fed-xor (suc k) r b h =
     ∙ ap (shifts k)
     (xor-swap (r / 2) (differ (r % 2) (b % 2) * feedback) (b / 2)
     ∙ sym (ap₂ (λ (x y : ℕ). bitXor x (y * feedback)) (xor-half r b) (xor-odd r b)))
-
-times : (x y p : ℕ) → x < 2 → y < 2 → differ x y * p ≡ bitXor (x * p) (y * p)
-times zero y p hx hy = sym (ap (λ (z : ℕ). bitXor z (y * p)) (zero-mul p))
-times (suc zero) zero p hx hy = sym (ap (bitXor (1 * p)) (zero-mul p) ∙ xor-zero-r (1 * p))
-times (suc zero) (suc zero) p hx hy = zero-mul p ∙ sym (xor-self (1 * p))
-times (suc zero) (suc (suc y)) p hx hy = past hy
-times (suc (suc x)) y p hx hy = past hx
 
 shift-xor : (x y : ℕ) → shift (bitXor x y) ≡ bitXor (shift x) (shift y)
 unfolding shift
@@ -45,6 +40,10 @@ unfolding shifts
 shifts-add zero b x = ap (λ (n : ℕ). shifts n x) (zero-add b)
 shifts-add (suc a) b x = ap (λ (n : ℕ). shifts n x) (suc-add a b) ∙ shifts-add a b (shift x)
 
+-- two runs in either order
+pub shifts-comm : (a b x : ℕ) → shifts a (shifts b x) ≡ shifts b (shifts a x)
+shifts-comm a b x = sym (shifts-add b a x) ∙ ap (λ (n : ℕ). shifts n x) (add-comm b a) ∙ shifts-add a b x
+
 -- zeros fall out
 shift-even : (q k : ℕ) → shift (q * 2 ^ suc k) ≡ q * 2 ^ k
 unfolding shift
@@ -56,6 +55,9 @@ pub shifts-high : (k q : ℕ) → shifts k (q * 2 ^ k) ≡ q
 unfolding shifts
 shifts-high zero q = mul-one q
 shifts-high (suc k) q = ap (shifts k) (shift-even q k) ∙ shifts-high k q
+
+pub shifts-empty : (n : ℕ) → shifts n 0 ≡ 0
+shifts-empty n = ap (shifts n) (sym (zero-mul (2 ^ n))) ∙ shifts-high n 0
 
 -- the k low bits by themselves, and the rest moved down
 pub shifts-split : (k x : ℕ) → shifts k x ≡ bitXor (shifts k (x % 2 ^ k)) (x / 2 ^ k)
@@ -70,8 +72,28 @@ shift-lt : (x : ℕ) → x < 2 ^ 32 → shift x < 2 ^ 32
 unfolding shift
 shift-lt x h = xor-lt 32 (x / 2) (x % 2 * feedback) (omega arith) (rw feedback-is (omega (arith, odd-lt x)))
 
-pub same-of-xor : (a b : ℕ) → bitXor a b ≡ 0 → a ≡ b
-same-of-xor a b e = sym (xor-cancel a b) ∙ ap (λ (x : ℕ). bitXor x b) e ∙ xor-zero-l b
+pub shifts-lt : (k x : ℕ) → x < 2 ^ 32 → shifts k x < 2 ^ 32
+unfolding shifts
+shifts-lt zero x h = h
+shifts-lt (suc k) x h = shifts-lt k (shift x) (shift-lt x h)
+
+-- w more bits than a register has are gone after w bits
+pub shifts-width : (w x : ℕ) → x < 2 ^ (32 + w) → shifts w x < 2 ^ 32
+unfolding shifts shift
+shifts-width zero x h = h
+shifts-width (suc w) x h =
+    shifts-width w (shift x)
+    (xor-lt (32 + w) (x / 2) (x % 2 * feedback) (shr-lt (32 + w) 1 (subst (λ (n : ℕ). x < 2 ^ n) e h))
+    (lt-of-lt-of-le low (pow-mono f)))
+  where
+    e : 32 + suc w ≡ 32 + w + 1
+    e = omega arith
+
+    f : 32 ≤ 32 + w
+    f = omega arith
+
+    low : x % 2 * feedback < 2 ^ 32
+    low = rw feedback-is (omega (arith, odd-lt x))
 
 -- only 0 goes to 0: an odd x would have half of it equal to the feedback, which has bit 31
 none : (x d : ℕ) → x < 2 ^ 32 → x % 2 ≡ d → bitXor (x / 2) (d * feedback) ≡ 0 → x ≡ 0

@@ -18,7 +18,8 @@ pub fn edc(bytes: &[u8]) -> u32
 {
     let mut at = bytes.len() % 256;
     let mut ring: [u64; 32] = [0; 32];
-    let first = words::padded(bytes, at);
+    let mut first: [u8; 256] = [0; 256];
+    words::pad(&mut first, bytes, at);
     division::turn(&mut ring, &first, 0);
     while at < bytes.len() {
         division::turn(&mut ring, bytes, at);

@@ -2,7 +2,7 @@
 ghost use mathlib.Core.Path.{_≡_};
 ghost use Prim.Native.Nat.{ℕ, _+_, _≤_};
 ghost use lib.Bits.{bitXor};
-ghost use lib.ListN.{length, drop};
+ghost use lib.ListN.{length, drop, replicate};
 ghost use Rattle.edc.specs.Edc.{edc, fed};
 ghost use Rattle.edc.specs.Fold.{shifts};
 
@@ -38,19 +38,18 @@ pub fn word(s: &[u8], i: usize) -> u64
     )
 }
 
-// The first n bytes, with zeros before them.
+// The first n bytes at the end of b, which holds zeros.
 // Ruled out: one that has the zeros after the bytes, and one that leaves out the last of them.
-pub fn padded(s: &[u8], n: usize) -> [u8; 256]
+pub fn pad(b: &mut [u8; 256], s: &[u8], n: usize)
+    requires { ⌜ now b ≡ replicate 256 0 ⌝ }
     requires { ⌜ n ≤ 256 ⌝ }
     requires { ⌜ n ≤ length (now s) ⌝ }
-    ensures long { λ b. ⌜ length b ≡ 256 ⌝ }
-    ensures total { λ b. ⌜ edc (edc 0 b) (drop n (now (s .entry))) ≡ edc 0 (now (s .entry)) ⌝ }
+    ensures long { λ _. ⌜ length (now (b .exit)) ≡ 256 ⌝ }
+    ensures total { λ _. ⌜ edc (edc 0 (now (b .exit))) (drop n (now (s .entry))) ≡ edc 0 (now (s .entry)) ⌝ }
 {
-    let mut b: [u8; 256] = [0; 256];
     let mut i: usize = 0;
     while i < n {
         b[256 - n + i] = s[i];
         i += 1;
     }
-    b
 }

@@ -1,6 +1,5 @@
 -- `edc::edc` meets its contract. The invariant: the register that the ring stands for, with what is left of the bytes, gives the code.
 -- Assumes nothing.
-use borrow.Author.Needs.{needs}
 use mathlib.Core.Path.{_≡_, refl, sym, ap, _∙_}
 use Prim.Native.Nat.{ℕ, _+_, _-_, _%_, _≤_}
 use native.Mathlib.Nat.{le-of-eq}
@@ -19,24 +18,24 @@ Inv-loop bytes at₀ ring₀ at ring =     (length ring ≡ 32) × ((length byte
 abbrev μ-loop : tie.MeasureT-loop
 μ-loop bytes at₀ ring₀ at ring = length bytes - at
 
-padded-requires : tie.Need-padded-requires Inv-loop μ-loop
-padded-requires c κs = (omega arith, omega arith)
+pad-requires : tie.Need-pad-requires Inv-loop μ-loop
+pad-requires c κs = (refl, (omega arith, omega arith))
 
 slice-aggregate-turn : tie.Need-slice-aggregate-turn Inv-loop μ-loop
-slice-aggregate-turn c = sym (c .before .before .padded .ensures .0)
+slice-aggregate-turn c = sym (c .before .before .pad .ensures .0)
 
 turn-requires : tie.Need-turn-requires Inv-loop μ-loop
 turn-requires c κs = (refl, omega arith)
 
 loop-holds : tie.Need-loop-holds Inv-loop μ-loop
-loop-holds c =     let s = c .before .before .before .before .before .args .bytes .now in
-    let p = c .before .before .before .padded in
-    (
+loop-holds c =     let s = c .before .before .before .before .before .before .args .bytes .now in
+    let p = c .before .before .before .pad in
+    let b = p .last .0 in (
       c .turn .ensures .0,
       omega arith,
       omega arith,
       ap (λ (r : ℕ). edc r (drop (length s % 256) s))
-          (sym (edc-end (p .result) (held (c .turn .last .0) 0) 256 (le-of-eq (p .ensures .0))) ∙ c .turn .ensures .1 ∙ ap (λ (r : ℕ). edc r (p .result)) held-empty)
+          (sym (edc-end b (held (c .turn .last .0) 0) 256 (le-of-eq (p .ensures .0))) ∙ c .turn .ensures .1 ∙ ap (λ (r : ℕ). edc r b) held-empty)
           ∙ p .ensures .1,
     )
 
@@ -61,7 +60,7 @@ register-requires c κs = tt
 
 returns : tie.Need-returns Inv-loop μ-loop
 returns c =     let l = c .before .before .before .before .loop in
-    c .register .ensures ∙ c .before .one-word .ensures ∙ sym (edc-end (c .before .before .before .before .before .before .before .before .before .before .args .bytes .now) (held (l .ring) 0) (l .at) (omega arith)) ∙ l .inv .3
+    c .register .ensures ∙ c .before .one-word .ensures ∙ sym (edc-end (c .before .before .before .before .before .before .before .before .before .before .before .args .bytes .now) (held (l .ring) 0) (l .at) (omega arith)) ∙ l .inv .3
 
 pub edc-spec : {M : Type 1} → statement M
 edc-spec =
@@ -69,7 +68,7 @@ edc-spec =
     (tie.spec
     Inv-loop
     μ-loop
-    padded-requires
+    pad-requires
     slice-aggregate-turn
     turn-requires
     loop-holds

@@ -1,4 +1,4 @@
--- `edc::words::padded` meets its contract. The invariant: what is written, and then what is left of `s`, gives the code. Assumes nothing.
+-- `edc::words::pad` meets its contract. The invariant: what is written, and then what is left of `s`, gives the code. Assumes nothing.
 use mathlib.Core.Path.{_≡_, refl, sym, ap, ap₂, _∙_}
 use mathlib.Core.List.{List}
 use Prim.Native.Nat.{ℕ, _+_, _-_, _<_, _≤_}
@@ -8,17 +8,18 @@ use lib.ListN.{length, getD, set, take, drop, length-set}
 use lib.Seq.{take-all}
 use Rattle.edc.specs.Edc.{edc}
 use Rattle.edc.proofs.Octets.{edc-zeros, pad-next}
-use Rattle.edc.proofs.words.padded.Statement.{statement}
-use Rattle.edc.proofs.words.padded.Tie as tie
+use Rattle.edc.proofs.words.pad.Statement.{statement}
+use Rattle.edc.proofs.words.pad.Tie as tie
 
 abbrev Inv-loop : tie.InvT-loop
-Inv-loop s n b₀ i₀ b i = (i ≤ n) × (length b ≡ 256) × (edc (edc 0 (take (256 - n + i) b)) (drop i s) ≡ edc 0 s)
+Inv-loop b₀ s n i₀ b i = (i ≤ n) × (length b ≡ 256) × (edc (edc 0 (take (256 - n + i) b)) (drop i s) ≡ edc 0 s)
 
 abbrev μ-loop : tie.MeasureT-loop
-μ-loop s n b₀ i₀ b i = n - i
+μ-loop b₀ s n i₀ b i = n - i
 
 loop-holds : tie.Need-loop-holds Inv-loop μ-loop
-loop-holds c = (omega arith, refl, ap (λ (x : ℕ). edc x (c .args .s .now)) (edc-zeros (256 - c .args .n + 0) 256))
+loop-holds c =     let m = 256 - c .args .n + 0 in
+    (omega arith, ap length (c .pre .0), ap (λ (x : ℕ). edc x (c .args .s .now)) (ap (λ (b : List ℕ). edc 0 (take m b)) (c .pre .0) ∙ edc-zeros m 256))
 
 shared-slice-read-b : tie.Need-shared-slice-read-b Inv-loop μ-loop
 shared-slice-read-b c = omega arith
@@ -29,8 +30,8 @@ sub-b c = omega arith
 add-b : tie.Need-add-b Inv-loop μ-loop
 add-b c = omega arith
 
-array-write-b : tie.Need-array-write-b Inv-loop μ-loop
-array-write-b c = omega arith
+element-write-b : tie.Need-element-write-b Inv-loop μ-loop
+element-write-b c = omega arith
 
 add-i : tie.Need-add-i Inv-loop μ-loop
 add-i c = omega arith
@@ -58,8 +59,8 @@ returns c =     let l = c .before .loop in
     let e : a .n ≡ l .i = omega arith in
     (l .inv .1, ap₂ (λ (b : List ℕ) (k : ℕ). edc (edc 0 b) (drop k (a .s .now))) (sym (take-all 256 (l .b) (le-of-eq (l .inv .1))) ∙ ap (λ (k : ℕ). take k (l .b)) m) e ∙ l .inv .2)
 
-pub padded-spec : {M : Type 1} → statement M
-padded-spec =
+pub pad-spec : {M : Type 1} → statement M
+pad-spec =
     tie.close
     (tie.spec
     Inv-loop
@@ -68,7 +69,7 @@ padded-spec =
     shared-slice-read-b
     sub-b
     add-b
-    array-write-b
+    element-write-b
     add-i
     loop-less
     loop-again

@@ -1,16 +1,21 @@
 -- The scales s at which x^(31s) + x^(15s) + x^(3s) + 1 is a multiple of the generator: 2 by a test of one register, of which all others
 -- are made, and the double of each. Assumes nothing.
 use mathlib.Core.Path.{_≡_, refl, sym, ap, ap₂, _∙_, subst}
+use mathlib.Core.Bool.{Bool, true, false, _&&_}
 use mathlib.Core.List.{[], _∷_}
 use Prim.Native.Nat.{ℕ, zero, suc, _+_, _-_, _*_, _/_, _%_, _^_, _<_, _≤_}
 use native.Mathlib.Nat.{zero-mul, one-mul, mod-lt, le-refl, lt-of-lt-of-le, add-comm}
 use native.Mathlib.Omega.{arith}
 use lib.Arith.{lt-one}
+use lib.Dec.{eqb}
 use lib.Pow.{split, pow-pos, pow-add, pow-mono, shr-lt}
 use lib.Bits.{bitXor, xor-lt, xor-shifted}
-use Rattle.laws.proofs.Xor.{odd-lt, past}
+use borrow.Author.Tests.{eqb-true}
+use Rattle.laws.specs.Choice.{if_then_else_}
+use Rattle.laws.proofs.Choice.{left-true, right-true}
+use Rattle.laws.proofs.Xor.{past}
 use Rattle.edc.specs.Edc.{feedback, feedback-is}
-use Rattle.edc.specs.Fold.{shift, shifts, Folds}
+use Rattle.edc.specs.Fold.{shift, shifts, Folds, scale}
 use Rattle.edc.proofs.Shifts.{shifts-xor, shifts-add, shifts-high, shifts-lt, shifts-empty, shifts-comm}
 use Rattle.laws.proofs.Sum.{sums, op, _⊕_}
 
@@ -90,7 +95,7 @@ folds-2 =
     ∙ ap₂ (λ (a b : ℕ). bitXor (bitXor a b) (2 ^ 31)) (steps-are 30 (2 ^ 31)) (steps-are 6 (2 ^ 31)))
 
 -- the square of a multiple of the generator is one
-pub folds-double : (s : ℕ) → Folds s → Folds (2 * s)
+folds-double : (s : ℕ) → Folds s → Folds (2 * s)
 folds-double s f x h =
     twice 31 ∙ ap (shifts (31 * s)) (f x h)
     ∙ shifts-xor (31 * s) (bitXor a b) x ∙ ap (λ (y : ℕ). bitXor y (shifts (31 * s) x)) (shifts-xor (31 * s) a b)
@@ -113,17 +118,17 @@ folds-double s f x h =
         e : (k : ℕ) → k * (2 * s) ≡ k * s + k * s
         e k = omega (arith, native.Mathlib.Nat.mul-left-comm k 2 s)
 
-pub folds-4 : Folds 4
-folds-4 = folds-double 2 folds-2
+pub folds-of : (n s : ℕ) → scale n s ≡ true → Folds s
+unfolding scale
+folds-of zero s t = subst Folds (sym (eqb-true s 2 t)) folds-2
+folds-of (suc n) s t = choose (folds-of n (s / 2)) (eqb s 2) refl t
+  where
+    half : Bool
+    half = scale n (s / 2)
 
-pub folds-8 : Folds 8
-folds-8 = folds-double 4 folds-4
-
-pub folds-16 : Folds 16
-folds-16 = folds-double 8 folds-8
-
-pub folds-32 : Folds 32
-folds-32 = folds-double 16 folds-16
-
-pub folds-64 : Folds 64
-folds-64 = folds-double 32 folds-32
+    choose : (half ≡ true → Folds (s / 2)) → (b : Bool) → eqb s 2 ≡ b → (if b then true else (eqb (s % 2) 0 && half)) ≡ true → Folds s
+    choose f true e h = subst Folds (sym (eqb-true s 2 e)) folds-2
+    choose f false e h =
+        let o : s % 2 ≡ 0 = eqb-true (s % 2) 0 (left-true (eqb (s % 2) 0) half h) in
+        let d : 2 * (s / 2) ≡ s = omega arith in
+        subst Folds d (folds-double (s / 2) (f (right-true (eqb (s % 2) 0) half h)))

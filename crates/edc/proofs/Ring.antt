@@ -11,9 +11,9 @@ use lib.Pow.{pow-mono}
 use lib.Bits.{bitXor, xor-zero-r}
 use Rattle.laws.proofs.Sum.{sums, op, _⊕_}
 use Rattle.laws.proofs.Fill.{zeros}
-use Rattle.edc.specs.Fold.{shifts, code, along, round, left, held}
+use Rattle.edc.specs.Fold.{shifts, scale, code, along, round, left, held}
 use Rattle.edc.proofs.Shifts.{shifts-xor, shifts-add, shifts-empty, shifts-width}
-use Rattle.edc.proofs.Folds.{folds-64}
+use Rattle.edc.proofs.Folds.{folds-of}
 use Rattle.edc.proofs.Runs.{code-same, code-zeros, code-first, code-xor}
 
 left-same : (g h : ℕ → ℕ) → ((k : ℕ) → k < 31 → g k ≡ h k) → left g ≡ left h
@@ -29,7 +29,7 @@ later g n =
 -- the quotient's next word: the register takes the word that was divided
 pub left-next : (g : ℕ → ℕ) (u : ℕ) → g 0 < 2 ^ 64 → g 31 ≡ bitXor (bitXor (bitXor u (g 15)) (g 3)) (g 0)
     → left (λ (k : ℕ). g (suc k)) ≡ shifts 64 (bitXor (left g) u)
-unfolding code
+unfolding code scale
 left-next g u h q =
     ap₂ bitXor (ap₂ bitXor (later g 31) (later g 15)) (later g 3)
     ∙ ap₂ bitXor (ap₂ bitXor (ap₂ bitXor (ap (λ (x : ℕ). s (bitXor (code g 31) x)) q) oldest) (ap (bitXor (code g 16)) (shifts-add 64 960 (g 0))))
@@ -54,16 +54,16 @@ left-next g u h q =
     b = omega arith
 
     oldest : shifts 2048 (g 0) ≡ bitXor (bitXor (shifts 960 y) (shifts 192 y)) y
-    oldest = shifts-add 64 1984 (g 0) ∙ folds-64 y (shifts-width 64 (g 0) (lt-of-lt-of-le h (pow-mono b)))
+    oldest = shifts-add 64 1984 (g 0) ∙ folds-of 5 64 refl y (shifts-width 64 (g 0) (lt-of-lt-of-le h (pow-mono b)))
 
     four : (m n o t : ℕ) → shifts 64 (bitXor (bitXor (bitXor m n) o) t) ≡ bitXor (bitXor (bitXor (shifts 64 m) (shifts 64 n)) (shifts 64 o)) (shifts 64 t)
     four m n o t = simp shifts-xor
 
--- in the ring, where the places read are given
-pub ring-next : (x : List ℕ) (j u q m₁ m₂ m₃ : ℕ) → length x ≡ 32 → j < 32 → (j + 16) % 32 ≡ m₁ → (j + 4) % 32 ≡ m₂ → (j + 1) % 32 ≡ m₃
-    → getD x m₃ 0 < 2 ^ 64 → q ≡ bitXor (bitXor (bitXor u (getD x m₁ 0)) (getD x m₂ 0)) (getD x m₃ 0)
+-- in the ring, where the places read are 16, 4 and 1 on
+pub ring-next : (x : List ℕ) (j u q m₁ m₂ m₃ : ℕ) → q ≡ bitXor (bitXor (bitXor u (getD x m₁ 0)) (getD x m₂ 0)) (getD x m₃ 0) → getD x m₃ 0 < 2 ^ 64
+    → length x ≡ 32 → j < 32 → (j + 16) % 32 ≡ m₁ → (j + 4) % 32 ≡ m₂ → (j + 1) % 32 ≡ m₃
     → held (set x j q) (j + 1) ≡ shifts 64 (bitXor (held x j) u)
-ring-next x j u q m₁ m₂ m₃ n l e₁ e₂ e₃ b e =
+ring-next x j u q m₁ m₂ m₃ e b n l e₁ e₂ e₃ =
     left-same (round (set x j q) (j + 1 + 1)) (λ (k : ℕ). h (suc k))
     (λ k i. let m : j + 1 + 1 + k ≡ j + 1 + suc k = omega arith in ap (λ (m : ℕ). getD (set x j q) (m % 32) 0) m)
     ∙ left-next h u (subst (λ (y : ℕ). y < 2 ^ 64) (sym (old 0 m₃ (omega arith) (omega arith))) b) new

@@ -1,10 +1,13 @@
 -- Words of the private functions' contracts: the register moved on with no data, and fed with words of 64 bits.
 -- No public contract cites them. Assumes nothing.
 use mathlib.Core.Path.{_≡_}
+use mathlib.Core.Bool.{Bool, true, _&&_}
 use mathlib.Core.List.{List}
 use Prim.Native.Nat.{ℕ, zero, suc, _+_, _*_, _/_, _%_, _^_, _<_, _≤_}
+use lib.Dec.{eqb}
 use lib.Bits.{bitXor}
 use lib.ListN.{getD}
+use Rattle.laws.specs.Choice.{if_then_else_}
 use Rattle.edc.specs.Edc.{feedback}
 
 -- the register after one bit with no data, and after n
@@ -18,6 +21,11 @@ shifts (suc n) x = shifts n (shift x)
 -- a unit of s bits may be moved on by 16, 28 and 31 units: x^(31s) + x^(15s) + x^(3s) + 1 is a multiple of the generator
 abbrev pub Folds : ℕ → Type 0
 Folds s = (x : ℕ) → x < 2 ^ 32 → shifts (31 * s) x ≡ bitXor (bitXor (shifts (15 * s) x) (shifts (3 * s) x)) x
+
+-- that holds of 2, and of the double of each s that it holds of: the test, for n doubles
+unfoldable pub scale : ℕ → ℕ → Bool
+scale zero s = eqb s 2
+scale (suc n) s = if eqb s 2 then true else (eqb (s % 2) 0 && scale n (s / 2))
 
 -- an empty register fed with n words, the first of them g 0
 unfoldable pub code : (ℕ → ℕ) → ℕ → ℕ
@@ -46,3 +54,10 @@ Reach start end d a = (a % 32 ≡ 0) × (a ≤ start + d) × (end + d ≤ a + 32
 -- the high half of a word after its low half is folded into it
 abbrev pub halved : ℕ → ℕ
 halved a = bitXor (bitXor (bitXor (a / 2 ^ 32) (a % 2 ^ 32)) (a % 2 ^ 32 % 2 ^ 8 * 2 ^ 24)) (a % 2 ^ 32 % 2 ^ 2 * 2 ^ 30)
+
+-- a word of 64 bits k places up, and with itself k places up
+unfoldable pub up : ℕ → ℕ → ℕ
+up k x = x * 2 ^ k % 2 ^ 64
+
+unfoldable pub on : ℕ → ℕ → ℕ
+on k x = bitXor x (x * 2 ^ k % 2 ^ 64)

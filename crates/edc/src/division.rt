@@ -18,7 +18,16 @@ fn next(u: u64, a: u64, b: u64, c: u64) -> u64
 
 // Divides the words that go to the places from `start` to `end`. Of the places read, 16, 4 and 1 on, those past the ring's end are a, b
 // or c less: numbers that are known where this is called, so that no index is masked.
-fn stretch(x: &mut [u64; 32], s: &[u8], p: usize, start: usize, end: usize, a: usize, b: usize, c: usize)
+fn stretch(
+    x: &mut [u64; 32],
+    s: &[u8],
+    p: usize,
+    start: usize,
+    end: usize,
+    a: usize,
+    b: usize,
+    c: usize,
+)
     requires { ⌜ length (now x) ≡ 32 ⌝ }
     requires { ⌜ p + 256 ≤ length (now s) ⌝ }
     requires { ⌜ start ≤ end ⌝ }

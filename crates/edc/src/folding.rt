@@ -1,10 +1,11 @@
 // The quotient's last 31 words, in places 1 to 31, to the words that are left of the division, and these to one word.
 use super::register::join_two;
 ghost use mathlib.Core.Path.{_≡_};
+ghost use mathlib.Core.Bool.{true};
 ghost use Prim.Native.Nat.{ℕ, _+_, _-_, _*_, _/_, _^_, _<_, _≤_};
 ghost use lib.Bits.{bitXor};
 ghost use lib.ListN.{length, getD};
-ghost use Rattle.edc.specs.Fold.{shifts, code, along, held, Folds};
+ghost use Rattle.edc.specs.Fold.{shifts, scale, code, along, held};
 
 // Xors into each word the one that stands `back` places before it.
 fn add_back(x: &mut [u64; 32], back: usize)
@@ -53,7 +54,7 @@ fn fold(x: &mut [u64; 32], start: usize, end: usize, s: usize)
     requires { ⌜ start ≤ end ⌝ }
     requires { ⌜ 4 ≤ s ⌝ }
     requires { ⌜ end + 31 * s / 64 + 1 ≤ 32 ⌝ }
-    requires { ⌜ Folds s ⌝ }
+    requires { ⌜ scale 5 s ≡ true ⌝ }
     ensures long { λ _. ⌜ length (now (x .exit)) ≡ 32 ⌝ }
     ensures total { λ _. ⌜ code (along (now (x .exit)) end) (32 - end) ≡ code (along (now (x .entry)) start) (32 - start) ⌝ }
 {

@@ -2,7 +2,7 @@
 ghost use mathlib.Core.Path.{_≡_};
 ghost use Prim.Native.Nat.{_^_, _<_};
 ghost use lib.Bits.{bitXor};
-ghost use Rattle.edc.specs.Fold.{shifts, halved};
+ghost use Rattle.edc.specs.Fold.{shifts, halved, up, on};
 
 // The high half of a word after its low half is folded into it by the scale 2.
 fn halve(a: u64) -> u64
@@ -23,19 +23,34 @@ pub fn join_two(a: u64, b: u64) -> u64
     b ^ (low >> 8) ^ (low >> 2) ^ high ^ (high * 16777216) ^ (high * 1073741824)
 }
 
+// A word k places up, and with itself k places up.
+fn up(x: u64, k: usize) -> u64
+    requires { ⌜ k < 64 ⌝ }
+    ensures { λ y. ⌜ y ≡ up k x ⌝ }
+{
+    x << k
+}
+
+fn on(x: u64, k: usize) -> u64
+    requires { ⌜ k < 64 ⌝ }
+    ensures { λ y. ⌜ y ≡ on k x ⌝ }
+{
+    x ^ (x << k)
+}
+
 // The register q moved on by 32 bits with no data. The generator is (x + 1) (x^31 + x^15 + x^3 + 1); the inverse of that, up to x^31, is
 // 1 + x + .. + x^15 + x^28 + x^29 + x^30. By it e is found, of which the generator's multiple has the bits of q.
 fn turn_out(q: u64) -> u64
     requires { ⌜ q < 2 ^ 32 ⌝ }
     ensures { λ r. ⌜ r ≡ shifts 32 q ⌝ }
 {
-    let a = q ^ (q << 1);
-    let b = a ^ (a << 2);
-    let c = b ^ (b << 4);
-    let d = c ^ (c << 8) ^ (a << 28) ^ (q << 30);
+    let a = on(q, 1);
+    let b = on(a, 2);
+    let c = on(b, 4);
+    let d = on(c, 8) ^ up(a, 28) ^ up(q, 30);
     let e = d % 4294967296;
-    let f = e ^ (e << 16) ^ (e << 28) ^ (e << 31);
-    (f ^ (f << 1)) >> 32
+    let f = on(e, 16) ^ up(e, 28) ^ up(e, 31);
+    on(f, 1) >> 32
 }
 
 // The register that a word leaves.

@@ -1,5 +1,4 @@
--- `edc::edc` meets its contract. The invariant: the register that the ring stands for, with what is left of the bytes, gives the code.
--- Assumes nothing.
+-- `edc::edc` meets its contract. The invariant: the ring's register, with what is left of the bytes, gives the code. Assumes nothing.
 use mathlib.Core.Path.{_≡_, refl, sym, ap, _∙_}
 use Prim.Native.Nat.{ℕ, _+_, _-_, _%_, _≤_}
 use native.Mathlib.Nat.{le-of-eq}
@@ -13,7 +12,7 @@ use Rattle.edc.proofs.edc.Statement.{statement}
 use Rattle.edc.proofs.edc.Tie as tie
 
 abbrev Inv-loop : tie.InvT-loop
-Inv-loop bytes at₀ ring₀ at ring =     (length ring ≡ 32) × ((length bytes - at) % 256 ≡ 0) × (at ≤ length bytes) × (edc (held ring 0) (drop at bytes) ≡ edc 0 bytes)
+Inv-loop bytes at₀ ring₀ at ring = (length ring ≡ 32) × ((length bytes - at) % 256 ≡ 0) × (at ≤ length bytes) × (edc (held ring 0) (drop at bytes) ≡ edc 0 bytes)
 
 abbrev μ-loop : tie.MeasureT-loop
 μ-loop bytes at₀ ring₀ at ring = length bytes - at
@@ -28,7 +27,7 @@ turn-requires : tie.Need-turn-requires Inv-loop μ-loop
 turn-requires c κs = (refl, omega arith)
 
 loop-holds : tie.Need-loop-holds Inv-loop μ-loop
-loop-holds c =     let s = c .before .before .before .before .before .before .args .bytes .now in
+loop-holds c = let s = c .before .before .before .before .before .before .args .bytes .now in
     let p = c .before .before .before .pad in
     let b = p .last .0 in (
       c .turn .ensures .0,
@@ -49,7 +48,7 @@ loop-less : tie.Need-loop-less Inv-loop μ-loop
 loop-less c = omega arith
 
 loop-again : tie.Need-loop-again Inv-loop μ-loop
-loop-again c =     let l = c .before .before .before .loop in
+loop-again c = let l = c .before .before .before .loop in
     (c .turn2 .ensures .0, omega arith, omega arith, c .turn2 .ensures .1 ∙ l .inv .3)
 
 one-word-requires : tie.Need-one-word-requires Inv-loop μ-loop
@@ -59,7 +58,7 @@ register-requires : tie.Need-register-requires Inv-loop μ-loop
 register-requires c κs = tt
 
 returns : tie.Need-returns Inv-loop μ-loop
-returns c =     let l = c .before .before .before .before .loop in
+returns c = let l = c .before .before .before .before .loop in
     c .register .ensures ∙ c .before .one-word .ensures ∙ sym (edc-end (c .before .before .before .before .before .before .before .before .before .before .before .args .bytes .now) (held (l .ring) 0) (l .at) (omega arith)) ∙ l .inv .3
 
 pub edc-spec : {M : Type 1} → statement M

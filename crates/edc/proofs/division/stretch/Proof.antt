@@ -1,7 +1,6 @@
--- `edc::division::stretch` meets its contract. The invariant: the register that the ring stands for, with what is left of `s`, gives the code.
--- Assumes nothing.
+-- `edc::division::stretch` meets its contract. The invariant: the ring's register, with what is left of `s`, gives the code. Assumes nothing.
 use mathlib.Core.Path.{_≡_, refl, ap, ap₂, _∙_}
-use Prim.Native.Nat.{ℕ, _+_, _-_, _*_, _%_, _≤_}
+use Prim.Native.Nat.{ℕ, _+_, _-_, _*_, _≤_}
 use native.Mathlib.Omega.{arith}
 use lib.ListN.{length, drop, length-set}
 use Rattle.edc.specs.Edc.{edc}
@@ -11,7 +10,7 @@ use Rattle.edc.proofs.division.stretch.Statement.{statement}
 use Rattle.edc.proofs.division.stretch.Tie as tie
 
 abbrev Inv-loop : tie.InvT-loop
-Inv-loop x₀ s p start end a b c i₀ x i =     (length x ≡ 32) × (start ≤ i) × (i ≤ end) × (edc (held x i) (drop (p + 8 * i) s) ≡ edc (held x₀ start) (drop (p + 8 * start) s))
+Inv-loop x₀ s p start end a b c i₀ x i = (length x ≡ 32) × (start ≤ i) × (i ≤ end) × (edc (held x i) (drop (p + 8 * i) s) ≡ edc (held x₀ start) (drop (p + 8 * start) s))
 
 abbrev μ-loop : tie.MeasureT-loop
 μ-loop x₀ s p start end a b c i₀ x i = end - i
@@ -80,26 +79,24 @@ loop-less : tie.Need-loop-less Inv-loop μ-loop
 loop-less c = omega arith
 
 loop-again : tie.Need-loop-again Inv-loop μ-loop
-loop-again c =     let f = c .before .before .before .before .before .before .before .before in
+loop-again c = let f = c .before .before .before .before .before .before .before .before in
     let a = f .args in
     let l = c .before .before .before .before .before .before .loop in
     let w = c .before .before .before .before .word in
     let i = l .i in
-    let e₁ : (i + 16) % 32 ≡ i + 16 - a .a = omega arith in
-    let e₂ : (i + 4) % 32 ≡ i + 4 - a .b = omega arith in
-    let e₃ : (i + 1) % 32 ≡ i + 1 - a .c = omega arith in
     let n : a .p + 8 * (i + 1) ≡ a .p + 8 * i + 8 = omega arith in (
       simp length-set (l .inv .0),
       omega arith,
       omega arith,
       ap₂ (λ (x k : ℕ). edc x (drop k (a .s .now)))
-          (ring-next (l .x) i (w .result) (c .next .result) (i + 16 - a .a) (i + 4 - a .b) (i + 1 - a .c) (l .inv .0) (omega arith) e₁ e₂ e₃ (c .next .ensures .1) (c .next .ensures .0))
+          (ring-next (l .x) i (w .result) (c .next .result) _ _ _ (c .next .ensures .0) (c .next .ensures .1) (l .inv .0) (omega arith)
+          (omega arith) (omega arith) (omega arith))
           n
           ∙ w .ensures (held (l .x) i) ∙ l .inv .3,
     )
 
 returns : tie.Need-returns Inv-loop μ-loop
-returns c =     let l = c .before .loop in
+returns c = let l = c .before .loop in
     let a = c .before .before .before .args in
     let e : a .end ≡ l .i = omega arith in
     (l .inv .0, ap (λ (k : ℕ). edc (held (l .x) k) (drop (a .p + 8 * k) (a .s .now))) e ∙ l .inv .3)

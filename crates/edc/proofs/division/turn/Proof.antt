@@ -23,7 +23,7 @@ stretch-requires-4 : tie.Need-stretch-requires-4
 stretch-requires-4 c κs = search needs
 
 returns : tie.Need-returns
-returns c =     let a = c .before .before .before .before .before .before .before .before .before .args in
+returns c = let a = c .before .before .before .before .before .before .before .before .before .args in
     let x = c .stretch4 .last .0 in
     let z : a .p + 8 * 0 ≡ a .p = omega arith in (
       c .stretch4 .ensures .0,

@@ -46,12 +46,12 @@ loop-less : tie.Need-loop-less Inv-loop μ-loop
 loop-less c = omega arith
 
 loop-again : tie.Need-loop-again Inv-loop μ-loop
-loop-again c =     let l = c .before .before .before .loop in
+loop-again c = let l = c .before .before .before .loop in
     let a = c .before .before .before .before .args in
     (omega arith, omega arith, back-next (a .back) (l .i) (a .x .now) (l .x) (omega arith) (l .inv .0) (omega arith) (l .inv .2))
 
 returns : tie.Need-returns Inv-loop μ-loop
-returns c =     let l = c .before .loop in
+returns c = let l = c .before .loop in
     let a = c .before .before .args in
     let e : l .i ≡ 32 = omega arith in
     (l .inv .2 .0, (l .inv .2 .1, back-end (a .back) (l .i) (a .x .now) (l .x) e (l .inv .2)))

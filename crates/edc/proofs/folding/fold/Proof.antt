@@ -4,6 +4,7 @@ use Prim.Native.Nat.{ℕ, _+_, _-_, _≤_}
 use native.Mathlib.Omega.{arith}
 use lib.ListN.{length}
 use Rattle.edc.specs.Fold.{code, along}
+use Rattle.edc.proofs.Folds.{folds-of}
 use Rattle.edc.proofs.Moved.{turn}
 use Rattle.edc.proofs.folding.fold.Statement.{statement}
 use Rattle.edc.proofs.folding.fold.Tie as tie
@@ -57,7 +58,7 @@ loop-again c =
       c .put3 .ensures .0,
       omega arith,
       omega arith,
-      turn (l .x) (c .before .before .before .before .put .last .0) (c .before .before .put2 .last .0) (c .put3 .last .0) s i (f .pre .1 .1 .1 .1) (c .put3 .ensures .1 .0) (omega arith)
+      turn (l .x) (c .before .before .before .before .put .last .0) (c .before .before .put2 .last .0) (c .put3 .last .0) s i (folds-of 5 s (f .pre .1 .1 .1 .1)) (c .put3 .ensures .1 .0) (omega arith)
           (c .before .before .before .before .put .ensures .1 .1 (i + 1) (omega arith))
           (c .before .before .put2 .ensures .1 .1 (i + 1) (omega arith))
           (c .put3 .ensures .1 .1 (i + 1) (omega arith)) ∙ l .inv .3,

@@ -1,8 +1,8 @@
 -- `edc::folding::one_word` meets its contract: what is left of the division, and the folds at 32, 16, 8, 4 and 2. Assumes nothing.
 use borrow.Author.Needs.{needs}
-use mathlib.Core.Path.{_∙_}
+use mathlib.Core.Path.{refl, _∙_}
 use native.Mathlib.Omega.{arith}
-use Rattle.edc.proofs.Folds.{folds-32, folds-16, folds-8, folds-4}
+use Rattle.edc.specs.Fold.{scale}
 use Rattle.edc.proofs.Halves.{code-two}
 use Rattle.edc.proofs.folding.one_word.Statement.{statement}
 use Rattle.edc.proofs.folding.one_word.Tie as tie
@@ -11,16 +11,20 @@ remainder-requires : tie.Need-remainder-requires
 remainder-requires c κs = search needs
 
 fold-requires : tie.Need-fold-requires
-fold-requires c κs = (c .before .remainder .ensures .0, (omega arith, (omega arith, (omega arith, folds-32))))
+unfolding scale
+fold-requires c κs = (c .before .remainder .ensures .0, (omega arith, (omega arith, (omega arith, refl))))
 
 fold-requires-2 : tie.Need-fold-requires-2
-fold-requires-2 c κs = (c .before .fold .ensures .0, (omega arith, (omega arith, (omega arith, folds-16))))
+unfolding scale
+fold-requires-2 c κs = (c .before .fold .ensures .0, (omega arith, (omega arith, (omega arith, refl))))
 
 fold-requires-3 : tie.Need-fold-requires-3
-fold-requires-3 c κs = (c .before .fold2 .ensures .0, (omega arith, (omega arith, (omega arith, folds-8))))
+unfolding scale
+fold-requires-3 c κs = (c .before .fold2 .ensures .0, (omega arith, (omega arith, (omega arith, refl))))
 
 fold-requires-4 : tie.Need-fold-requires-4
-fold-requires-4 c κs = (c .before .fold3 .ensures .0, (omega arith, (omega arith, (omega arith, folds-4))))
+unfolding scale
+fold-requires-4 c κs = (c .before .fold3 .ensures .0, (omega arith, (omega arith, (omega arith, refl))))
 
 element-copy-out-join-two : tie.Need-element-copy-out-join-two
 element-copy-out-join-two c = search needs
@@ -32,7 +36,7 @@ join-two-requires : tie.Need-join-two-requires
 join-two-requires c κs = search needs
 
 returns : tie.Need-returns
-returns c =     c .join-two .ensures ∙ code-two (c .before .before .before .fold4 .last .0) ∙ c .before .before .before .fold4 .ensures .1 ∙ c .before .before .before .before .before .fold3 .ensures .1
+returns c = c .join-two .ensures ∙ code-two (c .before .before .before .fold4 .last .0) ∙ c .before .before .before .fold4 .ensures .1 ∙ c .before .before .before .before .before .fold3 .ensures .1
     ∙ c .before .before .before .before .before .before .before .fold2 .ensures .1 ∙ c .before .before .before .before .before .before .before .before .before .fold .ensures .1 ∙ c .before .before .before .before .before .before .before .before .before .before .before .remainder .ensures .1
 
 pub one-word-spec : {M : Type 1} → statement M

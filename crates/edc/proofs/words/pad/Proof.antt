@@ -18,7 +18,7 @@ abbrev μ-loop : tie.MeasureT-loop
 μ-loop b₀ s n i₀ b i = n - i
 
 loop-holds : tie.Need-loop-holds Inv-loop μ-loop
-loop-holds c =     let m = 256 - c .args .n + 0 in
+loop-holds c = let m = 256 - c .args .n + 0 in
     (omega arith, ap length (c .pre .0), ap (λ (x : ℕ). edc x (c .args .s .now)) (ap (λ (b : List ℕ). edc 0 (take m b)) (c .pre .0) ∙ edc-zeros m 256))
 
 shared-slice-read-b : tie.Need-shared-slice-read-b Inv-loop μ-loop
@@ -40,7 +40,7 @@ loop-less : tie.Need-loop-less Inv-loop μ-loop
 loop-less c = omega arith
 
 loop-again : tie.Need-loop-again Inv-loop μ-loop
-loop-again c =     let l = c .before .before .loop in
+loop-again c = let l = c .before .before .loop in
     let a = c .before .before .before .args in
     let s = a .s .now in
     let m = 256 - a .n + l .i in
@@ -53,7 +53,7 @@ loop-again c =     let l = c .before .before .loop in
     )
 
 returns : tie.Need-returns Inv-loop μ-loop
-returns c =     let l = c .before .loop in
+returns c = let l = c .before .loop in
     let a = c .before .before .args in
     let m : 256 ≡ 256 - a .n + l .i = omega arith in
     let e : a .n ≡ l .i = omega arith in

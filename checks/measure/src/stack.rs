@@ -186,16 +186,16 @@ mod tests {
     use model::parse;
     use std::collections::BTreeSet;
 
-    /// The code's tables are 5 KB, the scrambling sequence 2,340 bytes: a sector call has one of them at a time, the chip's
-    /// sector both. The bench has
-    /// the chip's record several times besides.
+    /// The scrambling sequence is 2,340 bytes of it, the code's ring of words and its run of bytes 512. The chip's sector and the
+    /// bench have the chip's record several times besides.
     #[test]
     fn each_call_keeps_below_its_limit() {
         for (name, bytes) in by_call() {
             let limit = match name {
-                "cdrom_bench" => 10 * 1024,
-                "cdrom_chip_sector" => 9 * 1024,
-                "cdrom_seal" | "cdrom_open" | "cdrom_judge" | "cdrom_edc" => 6 * 1024,
+                "cdrom_bench" => 5 * 1024,
+                "cdrom_chip_sector" => 4 * 1024,
+                "cdrom_seal" | "cdrom_open" => 3 * 1024,
+                "cdrom_judge" | "cdrom_edc" => 1024,
                 _ => 2 * 1024,
             };
             assert!(bytes < limit, "{name} takes {bytes} bytes of stack");

@@ -4,12 +4,12 @@ use mathlib.Core.Path.{_≡_, refl, sym, ap, ap₂, _∙_, subst}
 use mathlib.Core.Bool.{Bool, true, false, _&&_}
 use mathlib.Core.List.{[], _∷_}
 use Prim.Native.Nat.{ℕ, zero, suc, _+_, _-_, _*_, _/_, _%_, _^_, _<_, _≤_}
-use native.Mathlib.Nat.{zero-mul, one-mul, mod-lt, le-refl, lt-of-lt-of-le, add-comm}
+use native.Mathlib.Nat.{zero-mul, one-mul, mod-lt, le-refl}
 use native.Mathlib.Omega.{arith}
 use lib.Arith.{lt-one}
 use lib.Dec.{eqb}
-use lib.Pow.{split, pow-pos, pow-add, pow-mono, shr-lt}
-use lib.Bits.{bitXor, xor-lt, xor-shifted}
+use lib.Pow.{split, pow-pos, pow-add, shr-lt}
+use lib.Bits.{bitXor, xor-shifted}
 use borrow.Author.Tests.{eqb-true}
 use Rattle.laws.specs.Choice.{if_then_else_}
 use Rattle.laws.proofs.Choice.{left-true, right-true}

@@ -5,7 +5,7 @@ use Prim.Native.Nat.{ℕ, suc, _+_, _-_, _*_, _/_, _%_, _^_, _<_, _≤_}
 use native.Mathlib.Nat.{mod-lt, zero-lt-suc, lt-of-lt-of-le}
 use native.Mathlib.Omega.{arith}
 use lib.ListN.{length, getD, set, length-set}
-use lib.Pow.{pow-pos, pow-mono, shr-shr, shl-shr}
+use lib.Pow.{pow-mono, shr-shr, shl-shr}
 use lib.Bits.{bitXor}
 use Rattle.edc.specs.Fold.{shifts, code, along, Folds}
 use Rattle.edc.proofs.Shifts.{shifts-xor, shifts-add, shifts-high, shifts-split, shifts-width}

@@ -23,7 +23,7 @@ pub fn join_two(a: u64, b: u64) -> u64
     b ^ (low >> 8) ^ (low >> 2) ^ high ^ (high * 16777216) ^ (high * 1073741824)
 }
 
-// A word k places up, and with itself k places up.
+// A word k places up.
 fn up(x: u64, k: usize) -> u64
     requires { ⌜ k < 64 ⌝ }
     ensures { λ y. ⌜ y ≡ up k x ⌝ }
@@ -31,6 +31,7 @@ fn up(x: u64, k: usize) -> u64
     x << k
 }
 
+// A word xored with itself k places up: the word times 1 + x^k.
 fn on(x: u64, k: usize) -> u64
     requires { ⌜ k < 64 ⌝ }
     ensures { λ y. ⌜ y ≡ on k x ⌝ }
@@ -38,8 +39,9 @@ fn on(x: u64, k: usize) -> u64
     x ^ (x << k)
 }
 
-// The register q moved on by 32 bits with no data. The generator is (x + 1) (x^31 + x^15 + x^3 + 1); the inverse of that, up to x^31, is
-// 1 + x + .. + x^15 + x^28 + x^29 + x^30. By it e is found, of which the generator's multiple has the bits of q.
+// The register q moved on by 32 bits with no data. Counted from the highest power, as the bits are, the generator is
+// (1 + x) (1 + x^16 + x^28 + x^31), and its inverse up to x^31 is 1 + x + .. + x^15 + x^28 + x^29 + x^30. By this e is found, whose product
+// with the generator begins with the 32 bits of q; the 32 bits after them are the register.
 fn turn_out(q: u64) -> u64
     requires { ⌜ q < 2 ^ 32 ⌝ }
     ensures { λ r. ⌜ r ≡ shifts 32 q ⌝ }

@@ -1,7 +1,6 @@
 -- `edc::register::turn_out` meets its contract: the formula is tested with the numbers of places that the code has. Assumes nothing.
 use borrow.Author.Needs.{needs}
 use mathlib.Core.Path.{refl}
-use Rattle.edc.specs.Fold.{up, on}
 use Rattle.edc.proofs.Folds.{steps}
 use Rattle.edc.proofs.Quotient.{right, out-is}
 use Rattle.edc.proofs.register.turn_out.Statement.{statement}

@@ -1,6 +1,6 @@
 /* Holds one's own code for the chip (own.c) against the library: both are given the same random calls (calls.c), and after each their
- * answers, the registers that both have, the interrupt line and, after a sector, every byte of the rings are compared. From the
- * repository's folder, after `make lib`:
+ * answers, what failed of the last sector (why), the registers that both have, the interrupt line and, after a sector, every byte of the
+ * rings are compared. From the repository's folder, after `make lib`:
  *
  *   make examples && target/examples/against [SEED [CALLS]]
  *
@@ -154,6 +154,14 @@ static int outcomes_differ(struct outcome by_library, struct outcome by_own)
            bytes_differ("of the look or burst byte", by_library.bytes, by_own.bytes, by_library.length);
 }
 
+/* Before the registers, since 80h shows less of it; and 80h is what the macro makes of it. */
+static int facts_differ(void)
+{
+    uint32_t why = cdrom_chip_why(&library.chip);
+    return differ("why after it", why, own_why(&own.chip)) ||
+           differ("80h after it, by CDROM_TARSTA_OF", standing(&library.chip, CDROM_TARSTA), CDROM_TARSTA_OF(why));
+}
+
 static int registers_differ(void)
 {
     static const uint16_t registers[] = {CDROM_TCC,   CDROM_BUFC,   CDROM_TARSTA, CDROM_TBL,   CDROM_LDDBL, CDROM_STATUS,
@@ -169,11 +177,25 @@ static int registers_differ(void)
 
 /* -- What happened ------------------------------------------------------------------------------------------------------------- */
 
-enum { GOOD, LAST, BAD_CODE, BAD_ADDRESS, RESTARTS, SKIPS, STARTS, LONG_STARTS, WORDS, TAKEN, AROUND, ENDED, ABORTS, LOOKS, REFUSED };
+/* The sectors that were taken come first, by their why. */
+enum { LAST = 16, RESTARTS, SKIPS, STARTS, LONG_STARTS, WORDS, TAKEN, AROUND, ENDED, ABORTS, LOOKS, REFUSED };
 static const char *const names[] = {"good sectors",
+                                    "sectors with why=1: address",
+                                    "sectors with why=2: EDC",
+                                    "sectors with why=3: EDC, address",
+                                    "sectors with why=4: mode",
+                                    "sectors with why=5: mode, address",
+                                    "sectors with why=6: mode, EDC",
+                                    "sectors with why=7: mode, EDC, address",
+                                    "sectors with why=8: sync",
+                                    "sectors with why=9: sync, address",
+                                    "sectors with why=10: sync, EDC",
+                                    "sectors with why=11: sync, EDC, address",
+                                    "sectors with why=12: sync, mode",
+                                    "sectors with why=13: sync, mode, address",
+                                    "sectors with why=14: sync, mode, EDC",
+                                    "sectors with why=15: all four",
                                     "good sectors at 99:59:74",
-                                    "sectors with STAERR",
-                                    "sectors with HCEI",
                                     "restarts after a bad sector",
                                     "skips of blocks",
                                     "starts",
@@ -196,15 +218,15 @@ static const char *const names[] = {"good sectors",
 #define HAPPENINGS (sizeof names / sizeof names[0])
 static uint64_t happened[HAPPENINGS];
 
-struct facts {
+struct state {
     unsigned t, tcc;
     int held, is_running;
     uint16_t place;
 };
 
-static struct facts facts_now(void)
+static struct state state_now(void)
 {
-    return (struct facts){
+    return (struct state){
         .t = standing(&library.chip, CDROM_TBL),
         .tcc = standing(&library.chip, CDROM_TCC),
         .held = writer.held,
@@ -213,7 +235,7 @@ static struct facts facts_now(void)
     };
 }
 
-static void count_write(struct call call, struct facts before, struct facts after)
+static void count_write(struct call call, struct state before, struct state after)
 {
     int is_start = !before.is_running && after.is_running;
     int is_unlimited = (standing(&library.chip, CDROM_ACCTL) & CDROM_ATLIM) == 0 && standing(&library.chip, CDROM_TTC) > 0;
@@ -223,18 +245,23 @@ static void count_write(struct call call, struct facts before, struct facts afte
     happened[LONG_STARTS] += is_start && is_unlimited && standing(&library.chip, CDROM_MBTC0) == 31;
 }
 
-static void count(struct call call, struct outcome outcome, struct facts before, struct facts after)
+static void count_sector(struct call call)
 {
-    uint32_t number = CDROM_NUMBER(outcome.answer), result = CDROM_RESULT(outcome.answer);
+    uint32_t why = cdrom_chip_why(&library.chip);
+    happened[why & 15]++;
+    happened[LAST] += why == 0 && call.one == 99 && call.two == 59 && call.three == 74;
+}
+
+static void count(struct call call, struct outcome outcome, struct state before, struct state after)
+{
+    uint32_t number = CDROM_NUMBER(outcome.answer);
     int is_word = call.kind == WORD || call.kind == BURST;
     if (number != CDROM_DONE) {
         happened[REFUSED + number - 1]++;
         return;
     }
-    happened[GOOD] += call.kind == SECTOR && result == 0;
-    happened[LAST] += call.kind == SECTOR && result == 0 && call.one == 99 && call.two == 59 && call.three == 74;
-    happened[BAD_CODE] += call.kind == SECTOR && result & CDROM_STAERR;
-    happened[BAD_ADDRESS] += call.kind == SECTOR && result & CDROM_HCEI;
+    if (call.kind == SECTOR)
+        count_sector(call);
     if (call.kind == WRITE)
         count_write(call, before, after);
     happened[WORDS] += call.kind == WORD ? 1 : call.kind == BURST ? outcome.length / 2 : 0;
@@ -268,19 +295,20 @@ static int open_both(void)
     ring_bytes = (size_t)blocks * CDROM_BLOCK_BYTES;
     memset(library.ring, blocks, ring_bytes);
     memset(own.ring, blocks, ring_bytes);
-    return differ("opening", cdrom_chip_open(&library.chip, blocks), own_open(&own.chip, own.ring, blocks)) || registers_differ();
+    return differ("opening", cdrom_chip_open(&library.chip, blocks), own_open(&own.chip, own.ring, blocks)) || facts_differ() ||
+           registers_differ();
 }
 
 /* One call on both sides; true where they differ. */
 static int call_both(void)
 {
-    struct facts before = facts_now();
+    struct state before = state_now();
     struct call call = draw_call(&writer, &library.chip);
     told[++step % TOLD_CALLS] = call;
     struct outcome outcome = by_library(call), owns = by_own(call);
     note_answer(&writer, call, outcome.answer, call.kind == WORD ? 1 : call.kind == BURST ? outcome.length / 2 : 0);
-    count(call, outcome, before, facts_now());
-    return outcomes_differ(outcome, owns) || registers_differ() ||
+    count(call, outcome, before, state_now());
+    return outcomes_differ(outcome, owns) || facts_differ() || registers_differ() ||
            (call.kind == SECTOR && bytes_differ("the ring's byte", library.ring, own.ring, ring_bytes));
 }
 

@@ -3,7 +3,9 @@
 
 #include <stdio.h>
 
-/* Where a sector's code begins. */
+/* Where a sector's address begins, its mode and its code. */
+#define ADDRESS_OFFSET 12
+#define MODE_OFFSET 15
 #define CODE_OFFSET (CDROM_USER_OFFSET + CDROM_USER_BYTES)
 
 unsigned standing(cdrom_chip *chip, uint16_t reg)
@@ -49,7 +51,7 @@ static uint16_t pick(struct writer *writer, const uint16_t *choices, size_t coun
 
 uint16_t draw_ring(struct writer *writer)
 {
-    uint16_t most = PICK(writer, 5, 10, 50, CDROM_MOST_BLOCKS);
+    uint16_t most = PICK(writer, 5, 10, 100, CDROM_MOST_BLOCKS);
     writer->blocks = (uint16_t)(CDROM_LEAST_BLOCKS + draw_below(writer, (uint16_t)(most - CDROM_LEAST_BLOCKS + 1)));
     writer->minute = writer->frame = writer->window_words = writer->place = 0;
     writer->second = 2;
@@ -82,35 +84,55 @@ static struct call blind_call(struct writer *w)
     }
 }
 
-/* Scrambling is its own inverse: an opened sector that is opened again is scrambled. */
-static void damage(struct writer *w, struct call call)
+/* Changes one of so many bytes from a place on. */
+static void damage(struct writer *w, size_t place, uint16_t count)
 {
-    uint8_t *byte = w->sector + call.damaged - 1;
-    *byte ^= (uint8_t)(1 + draw_below(w, 255));
-    if (!call.has_fitting_code)
-        return;
-    cdrom_open(w->sector, sizeof w->sector);
+    w->sector[place + draw_below(w, count)] ^= (uint8_t)(1 + draw_below(w, 255));
+}
+
+static void fit_code(struct writer *w)
+{
     uint32_t code = cdrom_edc(w->sector, CODE_OFFSET);
     for (int place = 0; place < 4; place++)
         w->sector[CODE_OFFSET + place] = (uint8_t)(code >> 8 * place);
+}
+
+/* The code is made to fit the damaged bytes before it, and damaged last: so each fact comes alone and with any other. Scrambling is its
+ * own inverse: an opened sector that is opened again is scrambled. */
+static void spoil(struct writer *w, uint16_t why)
+{
+    cdrom_open(w->sector, sizeof w->sector);
+    if (why & CDROM_WHY_SYNC)
+        damage(w, 0, ADDRESS_OFFSET);
+    if (why & CDROM_WHY_ADDRESS)
+        damage(w, ADDRESS_OFFSET, MODE_OFFSET - ADDRESS_OFFSET);
+    if (why & CDROM_WHY_MODE)
+        damage(w, MODE_OFFSET, 1);
+    fit_code(w);
+    if (why & CDROM_WHY_EDC)
+        damage(w, CODE_OFFSET, 4);
     cdrom_open(w->sector, sizeof w->sector);
 }
 
-/* The sector that is due, or one of another place, or one with a damaged byte; sealed, as it lies on the disc. */
+/* The sector that is due, or one of another place; sealed, as it lies on the disc. Some have a damaged byte, others fail in facts that
+ * are drawn. */
 static struct call sector_call(struct writer *w)
 {
-    struct call call = {SECTOR, w->minute, w->second, w->frame, 0, 0};
+    struct call call = {.kind = SECTOR, .one = w->minute, .two = w->second, .three = w->frame};
     if (one_in(w, 20))
         call.three = draw_below(w, 75);
-    if (one_in(w, 12)) {
-        call.has_fitting_code = one_in(w, 3);
-        call.damaged = (uint16_t)(1 + draw_below(w, call.has_fitting_code ? CDROM_USER_OFFSET : CDROM_SECTOR_BYTES));
-    }
+    int is_bad = one_in(w, 12);
+    if (is_bad && one_in(w, 2))
+        call.damaged = (uint16_t)(1 + draw_below(w, CDROM_SECTOR_BYTES));
+    else if (is_bad)
+        call.why = (uint16_t)(1 + draw_below(w, 15));
     for (size_t place = CDROM_USER_OFFSET; place < CDROM_SECTOR_BYTES; place++)
         w->sector[place] = (uint8_t)draw(w);
     cdrom_seal(w->sector, sizeof w->sector, call.one, call.two, call.three);
     if (call.damaged > 0)
-        damage(w, call);
+        damage(w, call.damaged - 1u, 1);
+    if (call.why > 0)
+        spoil(w, call.why);
     return call;
 }
 
@@ -157,7 +179,7 @@ static struct call serve(struct writer *w, cdrom_chip *chip)
     if (one_in(w, 4))
         return write_call(CDROM_MBTC0, draw_below(w, (uint16_t)(tcc > 31 ? 32 : tcc + 1)));
     if (one_in(w, 4))
-        return write_call(CDROM_TTC, PICK(w, 0, 1, 2, tcc, 40, 255));
+        return write_call(CDROM_TTC, PICK(w, 0, 1, 2, tcc, 40, 255, 255));
     if (one_in(w, 6))
         return write_call(CDROM_ACCTL, CDROM_ACMEN | CDROM_TCINCEN | PICK(w, 0, 0, 0, 1, 2, 31));
     return write_call(CDROM_ASTRG, CDROM_ADTT);
@@ -270,6 +292,8 @@ void print_call(struct call call)
     if (call.kind == EXPECT || call.kind == SECTOR)
         printf(" %02u:%02u:%02u", call.one, call.two, call.three);
     if (call.damaged > 0)
-        printf(", byte %u damaged%s", call.damaged - 1, call.has_fitting_code ? " under a fitting code" : "");
+        printf(", byte %u damaged", call.damaged - 1u);
+    if (call.why > 0)
+        printf(", spoilt: why=%u", call.why);
     putchar('\n');
 }

@@ -11,9 +11,8 @@ enum kind { OPEN, WRITE, READ, WINDOW, EXPECT, SECTOR, LOOK, WORD, BURST, COMMAN
 struct call {
     enum kind kind;
     uint16_t one, two, three;
-    /* Of a sector: the byte that is damaged, counted from 1; 0 is none. Where the code fits again the other tests are seen alone. */
-    uint16_t damaged;
-    int has_fitting_code;
+    /* Of a sector: the byte that is damaged, counted from 1, or what it is made to fail in, CDROM_WHY_..; 0 is none. */
+    uint16_t damaged, why;
 };
 
 /* The writer of the calls. It looks at the library's chip, so that what it asks for is often possible: blind calls would hardly ever

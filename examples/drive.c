@@ -1,13 +1,13 @@
-/* A drive over the chip, step by step: the firmware switches on, the disc brings sectors, one of them damaged, and the host reads
- * blocks by packet commands, aborts one read and repeats it. From the repository's folder, after `make lib`:
+/* A drive over the chip, step by step: the firmware switches on, the disc brings sectors, one of them damaged and one of another place,
+ * and the host reads blocks by packet commands, aborts one read and repeats it. From the repository's folder, after `make lib`:
  *
  *   make examples && target/examples/drive
  *
  * or anywhere, after `make install`: gcc -std=c11 -O2 drive.c $(pkg-config --cflags --libs cdrom) -o drive
  *
- * Each line is one call, of the six packet words the last: who makes it, what it is, its reply number and result, and TCC, BUFC and
- * the interrupt line after it. The exit status is 1 where an answer is not the one that paper 01 gives; examples/drive.expected has
- * the whole output. */
+ * Each line is one call, of the six packet words the last: who makes it, what it is, its reply number and result, and TCC, BUFC, what
+ * failed of the last sector (why) and the interrupt line after it. The exit status is 1 where an answer is not the one that paper 01
+ * gives; examples/drive.expected has the whole output. */
 #include <stdio.h>
 #include <string.h>
 
@@ -52,10 +52,11 @@ static unsigned standing(uint16_t reg)
 
 static void tell(const char *who, const char *what, uint32_t answer, uint32_t expected)
 {
-    unsigned irq = (unsigned)cdrom_chip_irq(&drive.chip);
-    printf("%-9s %-44s answer=%u out=%04Xh tcc=%u bufc=%u irq=%u\n", who, what, (unsigned)CDROM_NUMBER(answer),
-           (unsigned)CDROM_RESULT(answer), standing(CDROM_TCC), standing(CDROM_BUFC), irq);
+    unsigned why = (unsigned)cdrom_chip_why(&drive.chip), irq = (unsigned)cdrom_chip_irq(&drive.chip);
+    printf("%-9s %-44s answer=%u out=%04Xh tcc=%u bufc=%u why=%u irq=%u\n", who, what, (unsigned)CDROM_NUMBER(answer),
+           (unsigned)CDROM_RESULT(answer), standing(CDROM_TCC), standing(CDROM_BUFC), why, irq);
     check(answer == expected, "this answer was expected");
+    check(standing(CDROM_TARSTA) == CDROM_TARSTA_OF(why), "register 80h is made of why");
 }
 
 /* -- The firmware's calls ------------------------------------------------------------------------------------------------------ */
@@ -79,6 +80,16 @@ static void expect_frame(uint16_t frame)
     char what[64];
     snprintf(what, sizeof what, "expect 00:02:%02u", (unsigned)frame);
     tell("firmware", what, cdrom_chip_set_expected(&drive.chip, 0, SECOND, frame), CDROM_DONE);
+}
+
+/* What to do about a bad sector. With the address alone it was read well: the seek went wrong, or it is another disc. Else the reading
+ * did, by dirt or a scratch; the address may then be as wrong as the rest. */
+static void ask_why(uint32_t expected)
+{
+    uint32_t why = cdrom_chip_why(&drive.chip);
+    const char *remedy = why == CDROM_WHY_ADDRESS ? "well read, but elsewhere; seek anew" : "badly read; read it again";
+    printf("firmware  why=%u: %s\n", (unsigned)why, remedy);
+    check(why == expected, "this was expected to have failed");
 }
 
 static void packet_byte(uint16_t index, const char *why, uint32_t result)
@@ -185,17 +196,26 @@ static void switch_on(void)
     write_reg(CDROM_CTRL0, CDROM_DECEN, "DECEN", CDROM_DONE);
 }
 
+static void restart(uint16_t frame)
+{
+    write_reg(CDROM_CTRL0, 0, "DECEN low, bad block given up", CDROM_DONE);
+    expect_frame(frame);
+    write_reg(CDROM_CTRL0, CDROM_DECEN, "DECEN", CDROM_DONE);
+}
+
 /* A bad sector fills a block and does not count. Nothing more is taken until DECEN was low, and then its block is filled again. */
 static void read_over_a_scratch(void)
 {
-    puts("-- The disc is read; 00:02:17 is scratched, and read again.");
+    puts("-- The disc is read; 00:02:17 is scratched, then missed by the seek, and read again.");
     bring(16, 0, done_with(0));
     bring(17, 1, done_with(CDROM_STAERR));
+    ask_why(CDROM_WHY_EDC);
     bring(18, 0, CDROM_HELD);
     read_reg(CDROM_TARSTA, "STAERR", CDROM_STAERR);
-    write_reg(CDROM_CTRL0, 0, "DECEN low, bad block given up", CDROM_DONE);
-    expect_frame(17);
-    write_reg(CDROM_CTRL0, CDROM_DECEN, "DECEN", CDROM_DONE);
+    restart(17);
+    bring(40, 0, done_with(CDROM_HCEI));
+    ask_why(CDROM_WHY_ADDRESS);
+    restart(17);
     bring(17, 0, done_with(0));
 }
 

@@ -195,6 +195,7 @@ static void openings(void)
     for (size_t place = 0; place < sizeof refused / sizeof refused[0]; place++) {
         cdrom_chip *chip = open_chip(refused[place], CDROM_WRONG_LENGTH);
         expect("chip_irq", refused[place], cdrom_chip_irq(chip), 0);
+        expect("chip_why", refused[place], cdrom_chip_why(chip), 0);
         refuse_every_call(chip, 0);
         refuse_every_call(chip, RING_BYTES);
         free(chip);
@@ -204,6 +205,7 @@ static void openings(void)
     for (int byte = 0; byte <= 0xFF; byte += 0xFF) {
         cdrom_chip *chip = open_chip(BLOCKS, CDROM_DONE);
         memset(chip, byte, sizeof *chip);
+        expect("chip_why as it stands", (size_t)byte, cdrom_chip_why(chip), byte == 0 ? 0 : 15);
         refuse_every_call(chip, RING_BYTES);
         free(chip);
     }

@@ -1,5 +1,5 @@
-/* An engineer's own code for a part of the chip; own.h says which. Built with -DFAULT=1 to 5 it has one of the slips that paper 01
- * tells of other boards, so that one can see examples/against.c find it. */
+/* An engineer's own code for a part of the chip; own.h says which. Built with -DFAULT=1 to 7 it has a slip, so that one can see
+ * examples/against.c find it: 1 to 5 are those that paper 01 tells of other boards, 6 and 7 are in telling what failed of a sector. */
 #include "own.h"
 
 #ifndef FAULT
@@ -10,6 +10,7 @@ enum { DONE, WRONG_LENGTH, NO_REGISTER, OUT_OF_RANGE, BARRED, SWITCHES, TOO_FEW,
 enum { BLOCK_BYTES = 2560, SECTOR_BYTES = 2352, CODE_AT = 2064 };
 enum { DECEN = 0x80, ADTT = 0x04, ADCEN = 0x40, BSY = 0x80, DRQ = 0x08, STAERR = 0x40, HCEI = 0x01 };
 enum { BLIMEN = 0x20, BLIMS = 0x10, ACMEN = 0x40, TCINCEN = 0x20, ATLIM = 0x1F };
+enum { WHY_SYNC = 8, WHY_MODE = 4, WHY_EDC = 2, WHY_ADDRESS = 1 };
 
 static uint32_t done(uint16_t result)
 {
@@ -70,11 +71,30 @@ static bool has_code(const uint8_t *block)
     return fits;
 }
 
+static bool has_address(const uint8_t *block, struct own_address expected)
+{
+    return block[12] == bcd(expected.minute) && block[13] == bcd(expected.second) && block[14] == bcd(expected.frame);
+}
+
+/* Four tests, each made whatever the others say. */
 static uint8_t judge(const uint8_t *block, struct own_address expected)
 {
-    bool is_sound = has_sync(block) && block[15] == 1 && has_code(block);
-    bool is_due = block[12] == bcd(expected.minute) && block[13] == bcd(expected.second) && block[14] == bcd(expected.frame);
-    return (uint8_t)((is_sound ? 0 : STAERR) | (is_due ? 0 : HCEI));
+    uint8_t why = 0;
+    if (!has_sync(block))
+        why |= WHY_SYNC;
+    if (block[15] != 1)
+        why |= WHY_MODE;
+    if (!has_code(block) && !(FAULT == 7 && why & WHY_SYNC))
+        why |= WHY_EDC;
+    if (!has_address(block, expected))
+        why |= WHY_ADDRESS;
+    return why;
+}
+
+static uint8_t tarsta_of(uint8_t why)
+{
+    uint8_t staerr = why & (WHY_SYNC | WHY_MODE | WHY_EDC) ? STAERR : 0;
+    return why & WHY_ADDRESS ? staerr | HCEI : staerr;
 }
 
 static struct own_address next(struct own_address address)
@@ -116,26 +136,48 @@ uint32_t own_open(struct own *own, uint8_t *ring, uint16_t blocks)
     return DONE;
 }
 
-uint32_t own_sector(struct own *own, const uint8_t *sector)
+static uint32_t refusal_of_sector(const struct own *own)
 {
     if (!own->decen)
         return DECODING_OFF;
     if (own->held)
         return HELD;
-    if (is_at_stop(own))
-        return NO_ROOM;
+    return is_at_stop(own) ? NO_ROOM : DONE;
+}
+
+/* For FAULT 6: whatever comes from the disc is judged, taken or not. */
+static void judge_beside(struct own *own, const uint8_t *sector)
+{
+    uint8_t opened[SECTOR_BYTES];
+    descramble(opened, sector);
+    own->why = judge(opened, own->expected);
+}
+
+uint32_t own_sector(struct own *own, const uint8_t *sector)
+{
+    uint32_t refusal = refusal_of_sector(own);
+    if (refusal != DONE) {
+        if (FAULT == 6)
+            judge_beside(own, sector);
+        return refusal;
+    }
     uint8_t *block = own->ring + block_at(own->b);
     descramble(block, sector);
-    own->tarsta = judge(block, own->expected);
+    own->why = judge(block, own->expected);
     own->last = own->b;
     own->b = around(own, own->b, 1);
     own->bufc++;
-    own->held = own->tarsta != 0;
+    own->held = own->why != 0;
     if (!own->held)
         own->expected = next(own->expected);
     if (!own->held || FAULT == 1)
         own->tcc++;
-    return done(own->tarsta);
+    return done(tarsta_of(own->why));
+}
+
+uint32_t own_why(const struct own *own)
+{
+    return own->why;
 }
 
 size_t own_look(const struct own *own, size_t *offset)
@@ -281,7 +323,7 @@ uint32_t own_read(struct own *own, uint16_t reg)
     case 0x24: return done(own->t);
     case 0x38: return done(own->status);
     case 0x3A: return done(own->last);
-    case 0x80: return done(own->tarsta);
+    case 0x80: return done(tarsta_of(own->why));
     case 0x9A: return done(own->bicctl);
     case 0x9B: return done(own->bufc);
     case 0x9C: return done(own->acctl);

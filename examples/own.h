@@ -22,8 +22,10 @@ struct own {
     uint16_t tcc, bufc, ttc;
     struct own_address expected;
     bool decen, held, hirq;
+    /* What failed of the last sector that was taken: sync 8, mode 4, EDC 2, address 1. 80h is made from it. */
+    uint8_t why;
     /* Registers as they are read. */
-    uint8_t mbc, asctrl, status, tarsta, bicctl, buflim, acctl;
+    uint8_t mbc, asctrl, status, bicctl, buflim, acctl;
     /* The window; 0 words is none. */
     uint16_t offset, words;
     /* The running transfer: blocks that are left, 0 is none, and words of the present block that were read. */
@@ -38,6 +40,8 @@ uint32_t own_set_window(struct own *own, uint16_t offset, uint16_t words);
 uint32_t own_set_expected(struct own *own, uint16_t minute, uint16_t second, uint16_t frame);
 /* 2,352 bytes. */
 uint32_t own_sector(struct own *own, const uint8_t *sector);
+/* It is no answer, as in cdrom.h: the number alone. */
+uint32_t own_why(const struct own *own);
 /* How many bytes the look has, and from which byte of the ring. */
 size_t own_look(const struct own *own, size_t *offset);
 uint32_t own_word(struct own *own);

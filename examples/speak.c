@@ -16,9 +16,9 @@
 #define MOST_LINE_BYTES 80
 #define MOST_NUMBERS 4
 
-/* What a line looks like; a # is a number from 0 to 65,535. */
-enum form { OPEN, READ, WRITE, BLOCK, WINDOW, ADDRESS, PACKET, RESET, LOOK, WORD, COMMAND, SEND, STATUS, SRST, SECTOR, MALFORMED };
-static const char *const forms[MALFORMED] = {
+/* What a line looks like, NONE a malformed one; a # is a number from 0 to 65,535. */
+enum form { OPEN, READ, WRITE, BLOCK, WINDOW, ADDRESS, PACKET, RESET, LOOK, WORD, COMMAND, SEND, STATUS, SRST, SECTOR, SCRATCH, NONE };
+static const char *const forms[NONE] = {
     "call=open ring=#",
     "call=read reg=#",
     "call=write reg=# value=#",
@@ -34,6 +34,7 @@ static const char *const forms[MALFORMED] = {
     "call=status",
     "call=srst",
     "call=sector min=# sec=# frame=# fill=#",
+    "call=scratch from=# count=#",
 };
 
 /* One byte more than a line may have, to see that it is too long. */
@@ -42,11 +43,13 @@ struct line {
     size_t length;
 };
 
-/* The chip, where one was opened; its ring is the front of the memory. */
+/* The chip, where one was opened; its ring is the front of the memory. The scratch is the disc's, and no call of the chip touches it:
+ * so many bytes of the next sector that is taken arrive inverted. */
 static struct {
     cdrom_chip chip;
     uint8_t memory[MOST_BLOCKS * CDROM_BLOCK_BYTES];
     size_t ring_bytes;
+    uint16_t scratch_from, scratch_count;
 } bench;
 
 /* -- Lines --------------------------------------------------------------------------------------------------------------------- */
@@ -91,16 +94,16 @@ static int matches(const struct line *line, const char *form, uint16_t *numbers)
 static enum form form_of(const struct line *line, uint16_t *numbers)
 {
     if (line->length > MOST_LINE_BYTES)
-        return MALFORMED;
+        return NONE;
     enum form form = OPEN;
-    while (form < MALFORMED && !matches(line, forms[form], numbers))
+    while (form < NONE && !matches(line, forms[form], numbers))
         form++;
     return form;
 }
 
 /* -- Calls --------------------------------------------------------------------------------------------------------------------- */
 
-/* A refused opening keeps the chip there was. */
+/* A refused opening keeps the chip there was, and the scratch. */
 static uint32_t open_ring(uint16_t blocks)
 {
     cdrom_chip opened;
@@ -108,11 +111,12 @@ static uint32_t open_ring(uint16_t blocks)
     if (answer == CDROM_DONE) {
         bench.chip = opened;
         bench.ring_bytes = (size_t)blocks * CDROM_BLOCK_BYTES;
+        bench.scratch_count = 0;
     }
     return answer;
 }
 
-/* A sector whose user bytes are all equal, and parity 0. */
+/* A sector whose user bytes are all equal, and parity 0, with its scratch. One that is refused leaves the scratch to the next. */
 static uint32_t sector(const uint16_t *n)
 {
     uint8_t bytes[CDROM_SECTOR_BYTES] = {0};
@@ -122,7 +126,22 @@ static uint32_t sector(const uint16_t *n)
     uint32_t sealed = cdrom_seal(bytes, sizeof bytes, n[0], n[1], n[2]);
     if (sealed != CDROM_DONE)
         return sealed;
-    return cdrom_chip_sector(&bench.chip, bench.memory, bench.ring_bytes, bytes, sizeof bytes);
+    for (size_t place = 0; place < bench.scratch_count; place++)
+        bytes[bench.scratch_from + place] ^= 0xFF;
+    uint32_t answer = cdrom_chip_sector(&bench.chip, bench.memory, bench.ring_bytes, bytes, sizeof bytes);
+    if (CDROM_NUMBER(answer) == CDROM_DONE)
+        bench.scratch_count = 0;
+    return answer;
+}
+
+/* In place of an earlier one; no bytes take it back. The sum may be above 65,535. */
+static uint32_t scratch(uint16_t from, uint16_t count)
+{
+    if ((uint32_t)from + count > CDROM_SECTOR_BYTES)
+        return CDROM_OUT_OF_RANGE;
+    bench.scratch_from = from;
+    bench.scratch_count = count;
+    return CDROM_DONE;
 }
 
 static uint32_t look(void)
@@ -134,7 +153,7 @@ static uint32_t look(void)
 static uint32_t run(enum form form, const uint16_t *n)
 {
     cdrom_chip *chip = &bench.chip;
-    if (form == MALFORMED)
+    if (form == NONE)
         return CDROM_NO_REGISTER;
     if (form != OPEN && bench.ring_bytes == 0)
         return CDROM_SWITCHES;
@@ -153,6 +172,7 @@ static uint32_t run(enum form form, const uint16_t *n)
     case SEND: return cdrom_chip_packet_word(chip, n[0]);
     case STATUS: return cdrom_chip_status(chip);
     case SRST: return cdrom_chip_srst(chip);
+    case SCRATCH: return scratch(n[0], n[1]);
     default: return sector(n);
     }
 }
@@ -163,6 +183,13 @@ static unsigned counter(uint16_t reg)
     return bench.ring_bytes == 0 ? 0 : (unsigned)CDROM_RESULT(cdrom_chip_read(&bench.chip, reg));
 }
 
+static void print_chip(void)
+{
+    int is_open = bench.ring_bytes != 0;
+    unsigned why = is_open ? (unsigned)cdrom_chip_why(&bench.chip) : 0, irq = is_open ? (unsigned)cdrom_chip_irq(&bench.chip) : 0;
+    printf("tcc=%u bufc=%u why=%u irq=%u\n", counter(CDROM_TCC), counter(CDROM_BUFC), why, irq);
+}
+
 int main(void)
 {
     struct line line;
@@ -170,9 +197,8 @@ int main(void)
         uint16_t numbers[MOST_NUMBERS] = {0};
         enum form form = form_of(&line, numbers);
         uint32_t answer = run(form, numbers);
-        unsigned irq = bench.ring_bytes == 0 ? 0 : (unsigned)cdrom_chip_irq(&bench.chip);
-        printf("n=%llu answer=%u out=%u tcc=%u bufc=%u irq=%u\n", count, (unsigned)CDROM_NUMBER(answer), (unsigned)CDROM_RESULT(answer),
-               counter(CDROM_TCC), counter(CDROM_BUFC), irq);
+        printf("n=%llu answer=%u out=%u ", count, (unsigned)CDROM_NUMBER(answer), (unsigned)CDROM_RESULT(answer));
+        print_chip();
     }
     return ferror(stdin) || fflush(stdout) != 0;
 }

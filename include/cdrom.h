@@ -16,8 +16,12 @@
 extern "C" {
 #endif
 
-/* Goes up when a name, a size, a number or a call of this header changes its meaning. */
-#define CDROM_VERSION 1
+/* Goes up when a name, a size, a number or a call of this header changes its meaning.
+ *
+ * From 1 to 2: the result of cdrom_judge is why (CDROM_WHY_..), of which CDROM_TARSTA_OF makes the bits of register 80h that it was;
+ * the words of a chip's record mean something else, so that a record that was kept under 1 must not be handed over; cdrom_chip_why is
+ * new; the bench prints `why=` before `irq=`, and takes the line `call=scratch`. docs/FIRMWARE.md says what to change in code for 1. */
+#define CDROM_VERSION 2
 
 #define CDROM_SECTOR_BYTES 2352
 
@@ -57,9 +61,21 @@ uint32_t cdrom_seal(uint8_t *sector, size_t length, uint16_t minute, uint16_t se
 /* Descrambles a sector where it lies. Refusals: 1 another length. The result is 0. */
 uint32_t cdrom_open(uint8_t *sector, size_t length);
 
+/* Why a sector is not good: each of the four is tested, whatever the others say, and those that failed are added up. 0 is a good
+ * sector, 15 the most. The code is taken over bytes 0 to 2,063: a damaged sync, mode or address byte fails it too. The address alone is
+ * a sector that was read well and lies elsewhere. */
+#define CDROM_WHY_SYNC 8    /* bytes 0 to 11 are not the sync bytes */
+#define CDROM_WHY_MODE 4    /* byte 15 is not 1 */
+#define CDROM_WHY_EDC 2     /* bytes 2,064 to 2,067 are not the error detection code of those before them */
+#define CDROM_WHY_ADDRESS 1 /* bytes 12 to 14 are another address than the expected one */
+
+/* The byte of register 80h, made of why: CDROM_STAERR where sync, mode or EDC failed, CDROM_HCEI where the address did. From a why of 2
+ * on the sum reaches CDROM_STAERR, and its lowest bit is that of why: so the argument is evaluated once. */
+#define CDROM_TARSTA_OF(why) ((((why) & 15) + CDROM_STAERR - CDROM_WHY_EDC) & (CDROM_STAERR | CDROM_HCEI))
+
 /* Judges an opened sector against the address that is expected of it. A raw image of a disc (2,352 bytes a sector) holds its sectors
- * descrambled: they are judged as they are, without cdrom_open. Refusals: 1 another length, 3 the address. The result is 0 for a good
- * sector, or CDROM_STAERR, CDROM_HCEI or both. The whole answer is 0 exactly for a good sector. */
+ * descrambled: they are judged as they are, without cdrom_open. Refusals: 1 another length, 3 the address. The result is why: 0 for a
+ * good sector, or the CDROM_WHY_.. of all that failed. The whole answer is 0 exactly for a good sector. */
 uint32_t cdrom_judge(const uint8_t *sector, size_t length, uint16_t minute, uint16_t second, uint16_t frame);
 
 /* The error detection code of any number of bytes; it is no answer, and never refused. */
@@ -86,7 +102,7 @@ uint32_t cdrom_edc(const uint8_t *bytes, size_t length);
 #define CDROM_LDDBH 0x3B  /* r: 0 */
 #define CDROM_APKSTA 0x3D /* w */
 #define CDROM_ASCSTA 0x3E /* w */
-#define CDROM_TARSTA 0x80 /* r: of the last sector that was taken */
+#define CDROM_TARSTA 0x80 /* r: of the last sector that was taken; cdrom_chip_why says more */
 #define CDROM_BICCTL 0x9A /* rw */
 #define CDROM_BUFLIM 0x9B /* w: 0 to the ring's blocks less 2 */
 #define CDROM_BUFC 0x9B   /* r: filled blocks */
@@ -118,7 +134,7 @@ uint32_t cdrom_edc(const uint8_t *bytes, size_t length);
 #define CDROM_DRQ 0x08
 #define CDROM_CORR 0x04
 #define CDROM_CHECK 0x01
-/* TARSTA, and the result of cdrom_judge and cdrom_chip_sector: sync, mode or code is wrong; another address than expected */
+/* TARSTA, and the result of cdrom_chip_sector, made of why: sync, mode or code is wrong; another address than expected */
 #define CDROM_STAERR 0x40
 #define CDROM_HCEI 0x01
 /* BICCTL */
@@ -172,9 +188,15 @@ uint32_t cdrom_chip_packet_byte(cdrom_chip *chip, uint16_t index);
 uint32_t cdrom_chip_reset(cdrom_chip *chip);
 
 /* A sector as it comes from the disc: descrambled into block B, judged against the expected address, and counted where it is good. The
- * result is CDROM_STAERR, CDROM_HCEI, both, or 0 for a good one. Bytes 0 to 2,351 of block B are written and no other; the sector
- * itself is only read. Refusals: 1, also where the sector is not 2,352 bytes; 7 DECEN is low; 8 after a bad one; 9 at the stop. */
+ * result is CDROM_STAERR, CDROM_HCEI, both, or 0 for a good one; cdrom_chip_why then says what failed. Bytes 0 to 2,351 of block B are
+ * written and no other; the sector itself is only read. Refusals: 1, also where the sector is not 2,352 bytes; 7 DECEN is low; 8 after
+ * a bad one; 9 at the stop. */
 uint32_t cdrom_chip_sector(cdrom_chip *chip, uint8_t *ring, size_t ring_length, const uint8_t *sector, size_t length);
+
+/* Why the last sector that was taken is not good: the CDROM_WHY_.. of all that failed, 0 for a good one, 0..15. Register 80h is
+ * CDROM_TARSTA_OF it. 0 from an opening or a chip reset to the first sector; a refused sector, DECEN low, SRST and reads keep it. It
+ * has no reply number, and reads the record as it stands. */
+uint32_t cdrom_chip_why(const cdrom_chip *chip);
 
 /* The window of the oldest good block, also of one half read, as a part of the ring: *offset is where it begins, the return value how many
  * bytes it has. 0 and 0 where TCC is 0, no window is set, or a call with a ring would be refused with 1. It has no reply number. */
@@ -212,8 +234,9 @@ uint32_t cdrom_chip_srst(cdrom_chip *chip);
 
 /* Runs the lines of a text (docs/BENCH.md) that have their newline, in order, from a bench where no chip is open, while `out` has room.
  * The answers stand one behind the other at the front of `out`, each with its newline; the result is their length in bytes. The bytes
- * behind them stay. An accepted sector line makes its sector in `sector`, CDROM_SECTOR_BYTES long, and puts it into the memory; a refused
- * one, and every other line, changes no byte of either. No chip is kept for the next call.
+ * behind them stay. An accepted sector line makes its sector in `sector`, CDROM_SECTOR_BYTES long, with the bytes inverted that a
+ * scratch line named, and puts it into the memory; a refused one, and every other line, changes no byte of either. Neither chip nor
+ * scratch is kept for the next call.
  *
  * Other lengths are taken too. Once a chip is open, a sector line is answered 1 with another length of `sector`; with a memory too
  * short for the ring a word line is, and a sector line whose address and fill are in range. */

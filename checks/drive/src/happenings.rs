@@ -1,11 +1,14 @@
 //! Counts what a script really made happen, so that a comparison that never
 //! got as far as a transfer is not taken for a thorough one.
 
+mod disc;
+
+use disc::Disc;
 use ecma130::Address;
-use model::{Call, Chip, MAX_LINE_BYTES};
+use model::{Call, Chip, Scratch, MAX_LINE_BYTES};
 use std::collections::{BTreeMap, BTreeSet};
 
-/// All that is counted.
+/// All that is counted, but for what `disc` has.
 const NAMES: [&str; 66] = [
     "T goes around the ring",
     "malformed line",
@@ -75,7 +78,7 @@ const NAMES: [&str; 66] = [
     "block read through a fourth window",
 ];
 
-/// A line, the call it names, its answer, and the chip around it.
+/// A line, the call it names, its answer, the chip around it, and the scratch that waited before it.
 pub struct Step<'a> {
     pub line: &'a [u8],
     pub call: Option<Call>,
@@ -83,6 +86,7 @@ pub struct Step<'a> {
     pub out: u16,
     pub before: Option<Chip>,
     pub after: Option<Chip>,
+    pub scratch: Scratch,
 }
 
 pub struct Happenings {
@@ -90,16 +94,21 @@ pub struct Happenings {
     answers: BTreeMap<(&'static str, u16), u64>,
     /// Offsets of the windows through which the oldest block has been read.
     windows: BTreeSet<usize>,
+    disc: Disc,
 }
 
 impl Default for Happenings {
     fn default() -> Happenings {
-        let counts = NAMES.map(|name| (name, 0)).into();
-        Happenings { counts, answers: BTreeMap::new(), windows: BTreeSet::new() }
+        let counts = NAMES.into_iter().chain(disc::NAMES).map(|name| (name, 0)).collect();
+        Happenings { counts, answers: BTreeMap::new(), windows: BTreeSet::new(), disc: Disc::default() }
     }
 }
 
 impl Happenings {
+    fn count(&mut self, what: &'static str) {
+        self.count_if(true, what);
+    }
+
     fn count_if(&mut self, happened: bool, what: &'static str) {
         *self.counts.get_mut(what).expect("a name of the list") += happened as u64;
     }
@@ -113,6 +122,8 @@ impl Happenings {
         let name = step.call.map_or("malformed", |call| call.name());
         *self.answers.entry((name, step.answer)).or_default() += 1;
         self.note_line(step);
+        self.note_facts(step);
+        self.note_disc(step);
         let (Some(call), Some(before), Some(after)) = (step.call, step.before, step.after) else {
             return;
         };
@@ -305,6 +316,6 @@ mod tests {
 
     #[test]
     fn nothing_has_happened_at_first() {
-        assert_eq!(Happenings::default().missing().len(), NAMES.len());
+        assert_eq!(Happenings::default().missing().len(), NAMES.len() + disc::NAMES.len());
     }
 }

@@ -101,7 +101,7 @@ fn make_script(seed: u64, count: usize, happenings: &mut Happenings) -> Script {
     let (mut writer, mut bench) = (Writer::new(seed), Bench::new());
     let mut script = Script { lines: Vec::new(), expected: Vec::new() };
     for _ in 0..count {
-        let before = bench.chip().copied();
+        let (before, scratch) = (bench.chip().copied(), bench.scratch());
         let line = writer.next_line(before.as_ref());
         let printed = bench.line(&line);
         happenings.note(&Step {
@@ -111,6 +111,7 @@ fn make_script(seed: u64, count: usize, happenings: &mut Happenings) -> Script {
             out: field(&printed, "out="),
             before,
             after: bench.chip().copied(),
+            scratch,
         });
         script.lines.push(line);
         script.expected.push(printed);

@@ -104,6 +104,7 @@ fn mixed() -> Vec<u8> {
     let spoiled: [&[u8]; 4] = [b"call=status\r", b"call=sta\0tus", b"\0", b"call=status\xFF"];
     let mut lines = vec![STATUS, OPEN, STATUS, b"", &at, &over, STATUS, &long, &random];
     lines.extend(spoiled);
+    lines.extend([&b"call=scratch from=16 count=9"[..], b"call=scratch from=65535 count=0", b"call=scratch from=16"]);
     lines.extend([&b"call=sector min=0 sec=2 frame=0 fill=7"[..], b"call=look", b"call=read reg=36"]);
     joined(&lines)
 }
@@ -115,7 +116,7 @@ fn input_that_has_hardly_a_line() {
         hold(&from_file("short", input), input);
     }
     assert_eq!(piped(b"", 1).stdout, b"");
-    assert_eq!(piped(b"\n", 1).stdout, b"n=1 answer=2 out=0 tcc=0 bufc=0 irq=0\n");
+    assert_eq!(piped(b"\n", 1).stdout, b"n=1 answer=2 out=0 tcc=0 bufc=0 why=0 irq=0\n");
 }
 
 #[test]

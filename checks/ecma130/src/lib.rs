@@ -13,7 +13,7 @@ pub use address::Address;
 pub use edc::{edc_bitwise, edc_by_table, edc_sliced};
 pub use scramble::{scramble, sequence, SEQUENCE_BYTES};
 pub use sector::{
-    judge, judge_with, open, seal, seal_with, Verdict, EDC_START, SECTOR_BYTES, SYNC, USER_BYTES, USER_START,
+    judge, judge_with, open, seal, seal_with, Facts, EDC_START, SECTOR_BYTES, SYNC, USER_BYTES, USER_START,
 };
 
 /// Why a call was refused; a refused call has changed nothing.

@@ -13,23 +13,31 @@ const MODE_PLACE: usize = 15;
 const ZEROS_START: usize = 2068;
 const PARITY_START: usize = 2076;
 
-/// What judging found; both low is a good sector.
+/// What of a sector failed when it was judged. Each is a test of its own, and
+/// none hides another.
 #[derive(Clone, Copy, Debug, Default, PartialEq, Eq)]
-pub struct Verdict {
-    /// Sync, mode or EDC is wrong.
-    pub staerr: bool,
+pub struct Facts {
+    pub sync: bool,
+    pub mode: bool,
+    pub edc: bool,
     /// The header's address is not the expected one.
-    pub hcei: bool,
+    pub address: bool,
 }
 
-impl Verdict {
-    /// The bits as register 80h shows them.
+impl Facts {
+    /// The four as one number, as the bench prints it.
+    pub fn why(self) -> u8 {
+        (self.sync as u8) << 3 | (self.mode as u8) << 2 | (self.edc as u8) << 1 | self.address as u8
+    }
+
+    /// The two bits that register 80h shows: STAERR and HCEI.
     pub fn bits(self) -> u8 {
-        (self.staerr as u8) << 6 | self.hcei as u8
+        let staerr = self.sync || self.mode || self.edc;
+        (staerr as u8) << 6 | self.address as u8
     }
 
     pub fn is_good(self) -> bool {
-        self == Verdict::default()
+        self == Facts::default()
     }
 }
 
@@ -60,19 +68,21 @@ pub fn open(sector: &mut [u8]) -> Result<(), Refusal> {
 }
 
 /// Judges a descrambled sector.
-pub fn judge(sector: &[u8], expected: Address) -> Result<Verdict, Refusal> {
+pub fn judge(sector: &[u8], expected: Address) -> Result<Facts, Refusal> {
     judge_with(edc_sliced, sector, expected)
 }
 
 /// The same with one of the ways to take the code, to be timed.
-pub fn judge_with(edc: impl Fn(&[u8]) -> u32, sector: &[u8], expected: Address) -> Result<Verdict, Refusal> {
+pub fn judge_with(edc: impl Fn(&[u8]) -> u32, sector: &[u8], expected: Address) -> Result<Facts, Refusal> {
     check_length(sector)?;
     check_address(expected)?;
     let stored = &sector[EDC_START..ZEROS_START];
-    let sound =
-        sector[..HEADER_START] == SYNC && sector[MODE_PLACE] == 1 && stored == edc(&sector[..EDC_START]).to_le_bytes();
-    let hcei = sector[HEADER_START..MODE_PLACE] != expected.bcd();
-    Ok(Verdict { staerr: !sound, hcei })
+    Ok(Facts {
+        sync: sector[..HEADER_START] != SYNC,
+        mode: sector[MODE_PLACE] != 1,
+        edc: stored != edc(&sector[..EDC_START]).to_le_bytes(),
+        address: sector[HEADER_START..MODE_PLACE] != expected.bcd(),
+    })
 }
 
 fn check_length(sector: &[u8]) -> Result<(), Refusal> {
@@ -94,6 +104,7 @@ fn check_address(address: Address) -> Result<(), Refusal> {
 #[cfg(test)]
 mod tests {
     use super::*;
+    use crate::edc_bitwise;
 
     const ADDRESS: Address = Address::new(12, 34, 56);
 
@@ -144,17 +155,86 @@ mod tests {
         }
     }
 
-    #[test]
-    fn any_single_damage_before_the_zeros_is_seen() {
+    /// The sector with its code made to fit, so that the other facts are seen without it.
+    fn with_code(mut sector: Vec<u8>) -> Vec<u8> {
+        let code = edc_bitwise(&sector[..EDC_START]);
+        sector[EDC_START..ZEROS_START].copy_from_slice(&code.to_le_bytes());
+        sector
+    }
+
+    /// A sector in which just these things fail.
+    fn crafted(facts: Facts) -> Vec<u8> {
         let mut sector = opened_sector();
-        for place in 0..ZEROS_START {
-            for bit in 0..8 {
-                sector[place] ^= 1 << bit;
-                let verdict = judge(&sector, ADDRESS).unwrap();
-                assert!(verdict.staerr);
-                assert_eq!(verdict.hcei, (HEADER_START..MODE_PLACE).contains(&place));
-                sector[place] ^= 1 << bit;
+        sector[11] ^= facts.sync as u8;
+        sector[MODE_PLACE] ^= 3 * facts.mode as u8;
+        sector[14] ^= facts.address as u8;
+        let mut sector = with_code(sector);
+        sector[2067] ^= 0x80 * facts.edc as u8;
+        sector
+    }
+
+    #[test]
+    fn each_fact_has_its_weight_and_its_bit() {
+        let none = Facts::default();
+        let alone = [
+            (none, 0, 0x00),
+            (Facts { sync: true, ..none }, 8, 0x40),
+            (Facts { mode: true, ..none }, 4, 0x40),
+            (Facts { edc: true, ..none }, 2, 0x40),
+            (Facts { address: true, ..none }, 1, 0x01),
+        ];
+        for (facts, why, bits) in alone {
+            assert_eq!((facts.why(), facts.bits()), (why, bits));
+            assert_eq!(judge(&crafted(facts), ADDRESS), Ok(facts));
+        }
+    }
+
+    /// All sixteen: whatever else fails, a fact is told.
+    #[test]
+    fn no_fact_hides_another() {
+        for why in 0..16 {
+            let failed = |weight: u8| why & weight != 0;
+            let facts = Facts { sync: failed(8), mode: failed(4), edc: failed(2), address: failed(1) };
+            let found = judge(&crafted(facts), ADDRESS).unwrap();
+            assert_eq!(found, facts);
+            assert_eq!(found.why(), why);
+            let staerr = if why >= 2 { 0x40 } else { 0x00 };
+            assert_eq!(found.bits(), staerr | why & 1);
+            assert_eq!(found.is_good(), why == 0);
+        }
+    }
+
+    /// Of a good sector. The code begins at byte 0, so that it fails beside sync, address and mode.
+    fn why_of_damage_at(place: usize) -> u8 {
+        match place {
+            0..12 => 10,
+            12..15 => 3,
+            15 => 6,
+            16..2068 => 2,
+            _ => 0,
+        }
+    }
+
+    #[test]
+    fn any_single_damage_is_told_by_its_place() {
+        let mut sector = opened_sector();
+        for place in 0..SECTOR_BYTES {
+            for damage in [1, 2, 4, 8, 16, 32, 64, 128, 0xFF] {
+                sector[place] ^= damage;
+                assert_eq!(judge(&sector, ADDRESS).unwrap().why(), why_of_damage_at(place), "byte {place}");
+                sector[place] ^= damage;
             }
+        }
+    }
+
+    #[test]
+    fn under_a_fitting_code_header_damage_is_seen_alone() {
+        let sector = opened_sector();
+        for place in 0..EDC_START {
+            let mut damaged = sector.clone();
+            damaged[place] ^= 0xFF;
+            let found = judge(&with_code(damaged), ADDRESS).unwrap();
+            assert_eq!(found.why(), why_of_damage_at(place) & !2, "byte {place}");
         }
     }
 
@@ -168,8 +248,8 @@ mod tests {
     #[test]
     fn another_address_alone_is_hcei() {
         let sector = opened_sector();
-        let verdict = judge(&sector, ADDRESS.next()).unwrap();
-        assert_eq!(verdict.bits(), 0x01);
+        let facts = judge(&sector, ADDRESS.next()).unwrap();
+        assert_eq!((facts.why(), facts.bits()), (1, 0x01));
     }
 
     #[test]

@@ -3,6 +3,7 @@
 use crate::call::Call;
 use crate::difference::{same_rows, Part};
 use crate::library::Lent;
+use ecma130::open;
 use model::Random;
 
 /// Words behind a burst's buffer that no call may touch.
@@ -41,6 +42,13 @@ impl Buffers {
 
     pub fn for_library<'a>(&'a mut self, ring: &'a mut [u8]) -> Lent<'a> {
         self.library.lent(ring, self.sector_start, self.count)
+    }
+
+    /// The sector as it is judged. One of a wrong length stays as it is.
+    pub fn opened_sector(&self) -> Vec<u8> {
+        let mut sector = self.model.sector[self.sector_start..].to_vec();
+        let _ = open(&mut sector);
+        sector
     }
 
     /// The model changes no sector, and of the words only those that it hands over.

@@ -4,6 +4,7 @@
 use crate::buffers::Buffers;
 use crate::call::{Answer, Call};
 use crate::difference::{same, same_rows, Difference, Part};
+use crate::expectation::judged;
 use crate::happenings::Happenings;
 use crate::library::Library;
 use crate::memory::Memory;
@@ -38,6 +39,8 @@ impl<'a, L: Library> Checker<'a, L> {
         let compared = same("the answer", wanted.answer, found)
             .and_then(|()| before.compare_left(&call, &wanted, &left))
             .and_then(|()| self.compare_irq(&mut left))
+            .and_then(|()| self.compare_why(&mut left))
+            .and_then(|()| self.compare_judging(&call, &before.record, &buffers))
             .and_then(|()| buffers.compare())
             .and_then(|()| compare_memory(memory, &call, &before.record, &found));
         state.go_on(&call, &wanted, left);
@@ -59,6 +62,28 @@ impl<'a, L: Library> Checker<'a, L> {
         let found = self.library.irq(record);
         same("the interrupt line", record::bit(kept[record::STATUS], record::HIRQ) as u32, found)?;
         compare_records(&kept, record)
+    }
+
+    /// So do the facts.
+    fn compare_why(&mut self, record: &mut Record) -> Result<(), Part> {
+        let kept = *record;
+        let found = self.library.why(record);
+        same("why of the last stored sector", record::why(&kept), found)?;
+        compare_records(&kept, record)
+    }
+
+    /// The call's sector, opened and judged beside the chip, whether or not the chip takes it.
+    fn compare_judging(&mut self, call: &Call, record: &Record, buffers: &Buffers) -> Result<(), Part> {
+        if !matches!(call, Call::Sector { .. }) {
+            return Ok(());
+        }
+        let (opened, expected) = (buffers.opened_sector(), record::expected(record));
+        let mut lent = opened.clone();
+        let (wanted, found) = (judged(&opened, expected), self.library.judge(&mut lent, expected));
+        same("the judgement", wanted, found)?;
+        same_rows("the judged sector, byte", &opened, &lent)?;
+        self.happenings.note_judged(&wanted);
+        Ok(())
     }
 
     /// At the end of a run.
@@ -93,7 +118,7 @@ fn differing_byte(memory: &Memory, place: Option<usize>) -> Result<(), Part> {
     same(&name, model, library)
 }
 
-/// What paper 01 says, asked apart from the model: a record from an opening is sound, the two
+/// What the papers say, asked apart from the model: a record from an opening is sound, the two
 /// tests of soundness agree, and a sector is judged as it was damaged.
 fn agree_with_paper(step: &Step) -> Result<(), Part> {
     if step.after.reached && step.answer.is_done() {
@@ -104,7 +129,9 @@ fn agree_with_paper(step: &Step) -> Result<(), Part> {
     }
     match (step.call, &step.before.chip) {
         (Call::Sector { sector, .. }, Some(chip)) if step.answer.is_done() && sector.address == chip.expected => {
-            same("80h by the sector's damage, given as the library's", step.answer.result(), sector.damage.bits())
+            let (bits, why) = (sector.damage.bits(), sector.damage.why());
+            same("80h by the sector's damage, given as the library's", step.answer.result(), bits)?;
+            same("why by the sector's damage, given as the library's", record::why(&step.after.record), why)
         }
         _ => Ok(()),
     }

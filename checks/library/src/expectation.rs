@@ -1,7 +1,8 @@
-//! What a call must answer and leave, by the model.
+//! What a call must answer and leave, by the model, and what judging must, by the independent sector code.
 
 use crate::call::{Answer, Call};
 use crate::library::Lent;
+use ecma130::{judge, Address};
 use model::Chip;
 
 /// Runs the call on the model and on the memory that it is lent, and gives the answer.
@@ -27,6 +28,14 @@ pub fn answered(chip: &mut Chip, call: &Call, lent: Lent) -> Answer {
     match reply {
         Ok(result) => Answer::Reply { number: 0, result: result as u32 },
         Err(refusal) => call.refused(refusal as u32),
+    }
+}
+
+/// The result is all that failed, as one number.
+pub fn judged(sector: &[u8], expected: Address) -> Answer {
+    match judge(sector, expected) {
+        Ok(facts) => Answer::Reply { number: 0, result: facts.why() as u32 },
+        Err(refusal) => Answer::Reply { number: refusal.number() as u32, result: 0 },
     }
 }
 

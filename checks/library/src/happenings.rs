@@ -53,7 +53,7 @@ pub const WRONG_RINGS: [&str; 5] =
 const LENT_A_RING: [&str; 4] = ["sector", "look", "word", "words"];
 
 /// All else that is counted.
-const NAMES: [&str; 106] = [
+const NAMES: [&str; 116] = [
     "ring of 3 blocks opened",
     "ring of 4 blocks opened",
     "ring of 25 blocks opened",
@@ -64,14 +64,24 @@ const NAMES: [&str; 106] = [
     "opening over a chip in a transfer",
     "good sector",
     "good sector with other bytes for its zeros",
-    "sector wrong in its sync alone",
-    "sector wrong in its mode alone",
-    "sector wrong in its code alone",
-    "sector wrong in its address alone",
-    "sector wrong in two ways",
-    "sector wrong in three ways",
-    "sector wrong in four ways",
     "sector with STAERR and HCEI",
+    "80h read as 01h",
+    "80h read as 40h",
+    "80h read as 41h",
+    "why without a fact that the bad sector before had",
+    "why 0 again by a good sector",
+    "why 0 again by a reset",
+    "why 0 again by an opening",
+    "why kept over DECEN low",
+    "why kept over SRST",
+    "why kept over a read of 80h",
+    "why kept over words",
+    "why kept over a sector refused (1)",
+    "why kept over a sector refused (7)",
+    "why kept over a sector refused (8)",
+    "why kept over a sector refused (9)",
+    "judging refused, wrong length (1)",
+    "judging refused, bad address (3)",
     "sector of 0 bytes",
     "sector of 1 byte",
     "sector of 2,351 bytes",
@@ -199,6 +209,20 @@ pub fn ring_name(call: &str, ring: &str) -> String {
     format!("{call} lent a ring {ring}")
 }
 
+/// Of a sector that a chip took.
+pub fn stored_name(why: u32) -> String {
+    format!("sector stored, why {why}")
+}
+
+pub fn judged_name(why: u32) -> String {
+    format!("sector judged, why {why}")
+}
+
+/// Of a record as it stands before a call that it is refused for.
+pub fn unsound_why_name(why: u32) -> String {
+    format!("record unsound, why {why}")
+}
+
 pub fn spoiling_name(name: &str) -> String {
     format!("record unsound: {name}")
 }
@@ -221,6 +245,7 @@ fn demanded() -> Vec<String> {
         names.extend(numbers.iter().map(|&number| write_name(reg, number)));
     }
     names.extend(READABLE.map(read_name));
+    names.extend((0..16).flat_map(|why| [stored_name(why), judged_name(why), unsound_why_name(why)]));
     for call in LENT_A_RING {
         names.extend(WRONG_RINGS.map(|ring| ring_name(call, ring)));
     }

@@ -3,6 +3,7 @@
 use crate::call::{Answer, Call};
 use crate::record::Record;
 use cdrom::raw;
+use ecma130::Address;
 
 /// The memory that a call is lent. What a call may only read is lent to be
 /// changed too: a faulty library that is simulated may do so.
@@ -17,6 +18,12 @@ pub trait Library {
 
     /// The interrupt line, which has no reply number.
     fn irq(&mut self, record: &mut Record) -> u32;
+
+    /// The facts of the last stored sector as one number; it has no reply number either.
+    fn why(&mut self, record: &mut Record) -> u32;
+
+    /// Judges an opened sector, of any length.
+    fn judge(&mut self, sector: &mut [u8], expected: Address) -> Answer;
 }
 
 /// The archive that is linked.
@@ -37,6 +44,17 @@ impl Library for Linked {
     fn irq(&mut self, record: &mut Record) -> u32 {
         // SAFETY: the record is lent for the call, which only reads it.
         unsafe { raw::cdrom_chip_irq(record) }
+    }
+
+    fn why(&mut self, record: &mut Record) -> u32 {
+        // SAFETY: as in `irq`.
+        unsafe { raw::cdrom_chip_why(record) }
+    }
+
+    fn judge(&mut self, sector: &mut [u8], expected: Address) -> Answer {
+        let Address { minute, second, frame } = expected;
+        // SAFETY: pointer and length are those of a slice that is lent for the call, which only reads it.
+        reply(unsafe { raw::cdrom_judge(sector.as_ptr(), sector.len(), minute, second, frame) })
     }
 }
 

@@ -78,7 +78,7 @@ pub const SPOILINGS: [Change; 50] = [
     change!("65,535 packet words", at::PACKET_WORDS, |_| Some(65535)),
 ];
 
-pub const NEIGHBOURS: [Change; 26] = [
+pub const NEIGHBOURS: [Change; 30] = [
     change!("N 3", at::BLOCKS, |r| fits_in(r, 3).then_some(3)),
     change!("N 255", at::BLOCKS, |_| Some(255)),
     change!("T is N-1", at::T, |r| Some(r[at::BLOCKS] - 1)),
@@ -105,6 +105,10 @@ pub const NEIGHBOURS: [Change; 26] = [
     change!("MBC 31", at::BURST_LIMITS, |r| Some(r[at::BURST_LIMITS] & 0x00FF | 31 << 8)),
     change!("5 packet words in a reception", at::PACKET_WORDS, |r| is_receiving(r).then_some(5)),
     change!("5 packet words outside a reception", at::PACKET_WORDS, |r| (!is_receiving(r)).then_some(5)),
+    change!("all facts", at::COMMAND, |r| Some(r[at::COMMAND] | 0x0F00)),
+    change!("unused bits beside the facts", at::COMMAND, |r| Some(r[at::COMMAND] | 0xF000)),
+    change!("unused bits of the switches", at::SWITCHES, |r| Some(r[at::SWITCHES] | 0xC000)),
+    change!("unused bits of the status", at::STATUS, |r| Some(r[at::STATUS] | 0xC000)),
 ];
 
 /// Whether so few blocks would be enough for the other kept numbers, so that

@@ -19,6 +19,11 @@ pub fn flipped(record: &Record, random: &mut Random) -> Record {
     flipped
 }
 
+/// The record with any facts: they have no range, and change nothing of its soundness.
+pub fn with_any_facts(record: Record, random: &mut Random) -> Record {
+    at::with_why(record, random.between(0, 15))
+}
+
 /// Any words, with each kept number brought into its range: sound by paper 01's list, and
 /// most often not to be reached from an opening.
 pub fn in_range(random: &mut Random) -> Record {
@@ -82,6 +87,16 @@ mod tests {
             running += at::is_running(&record) as u32;
         }
         assert!(running > 500);
+    }
+
+    #[test]
+    fn no_facts_make_a_record_unsound() {
+        let mut random = Random::new(3);
+        for why in (0..16).cycle().take(4000) {
+            let record = all_but_one_in_range(&mut random);
+            assert_eq!(is_sound(&at::with_why(record, why)), is_sound(&record));
+            assert_eq!(decoded(&at::with_why(record, why)).is_sound(), decoded(&record).is_sound());
+        }
     }
 
     /// But for packet words outside a reception, which the model has no place for.

@@ -1,7 +1,10 @@
 //! What happened in a call, told from the call, its answer and the chip on both sides of it.
 
 use crate::call::{Answer, Call};
-use crate::happenings::{answer_name, read_name, ring_name, write_name, Happenings, WRONG_RINGS};
+use crate::happenings::{
+    answer_name, judged_name, read_name, ring_name, stored_name, unsound_why_name, write_name, Happenings, WRONG_RINGS,
+};
+use crate::record;
 use crate::sectors::{Damage, Sector, CUT_TO_FIT};
 use crate::state::State;
 use ecma130::Address;
@@ -32,13 +35,24 @@ impl Happenings {
             self.note_refusals(step, before);
             self.note_loaded(step);
         }
-        let unsound_look = matches!(step.call, Call::Look { .. }) && step.before.chip.is_none();
-        self.count_if(unsound_look, "look at an unsound record");
+        if step.before.chip.is_none() {
+            self.count(&unsound_why_name(record::why(&step.before.record)));
+            self.count_if(matches!(step.call, Call::Look { .. }), "look at an unsound record");
+        }
         if let (Call::Open { blocks }, true) = (step.call, step.answer.is_done()) {
             self.note_opening(*blocks, step.before);
         }
         if let (Some(before), Some(after), true) = (&step.before.chip, &step.after.chip, step.before.reached) {
             self.note_reached(&Done { call: step.call, answer: step.answer, before, after });
+        }
+    }
+
+    /// What judging answers beside the chip.
+    pub fn note_judged(&mut self, answer: &Answer) {
+        match answer.number() {
+            Some(0) => self.count(&judged_name(answer.result())),
+            Some(1) => self.count("judging refused, wrong length (1)"),
+            _ => self.count("judging refused, bad address (3)"),
         }
     }
 
@@ -85,6 +99,7 @@ impl Happenings {
 
     /// Of records that came from an opening.
     fn note_reached(&mut self, step: &Done) {
+        self.note_facts(step);
         self.note_refused_sector(step);
         self.note_look(step);
         self.note_burst(step);
@@ -103,6 +118,44 @@ impl Happenings {
         self.count_if(last_block, "T set to the last block");
         let cleared = matches!(step.call, Call::Status) && before.hirq && !after.hirq;
         self.count_if(cleared, "HIRQ cleared by a status read");
+    }
+
+    fn note_facts(&mut self, step: &Done) {
+        let (was, is) = (step.before.facts.why(), step.after.facts.why());
+        if was != 0 {
+            self.note_facts_kept(step);
+        }
+        match (step.call, step.answer.number()) {
+            (Call::Sector { .. }, Some(0)) => {
+                self.count(&stored_name(is as u32));
+                self.count_if(is != 0 && was & !is != 0, "why without a fact that the bad sector before had");
+                self.count_if(was != 0 && is == 0, "why 0 again by a good sector");
+            }
+            (Call::Read { reg: 0x80 }, _) => {
+                self.count_if(step.answer.result() == 0x01, "80h read as 01h");
+                self.count_if(step.answer.result() == 0x40, "80h read as 40h");
+                self.count_if(step.answer.result() == 0x41, "80h read as 41h");
+            }
+            _ => {}
+        }
+    }
+
+    /// Where the facts of a bad sector stand, and stay or go.
+    fn note_facts_kept(&mut self, step: &Done) {
+        let what = match (step.call, step.answer.number()) {
+            (Call::Sector { .. }, Some(1)) => "why kept over a sector refused (1)",
+            (Call::Sector { .. }, Some(7)) => "why kept over a sector refused (7)",
+            (Call::Sector { .. }, Some(8)) => "why kept over a sector refused (8)",
+            (Call::Sector { .. }, Some(9)) => "why kept over a sector refused (9)",
+            (Call::Write { reg: 0x0A, value: 0 }, Some(0)) => "why kept over DECEN low",
+            (Call::Srst, Some(0)) => "why kept over SRST",
+            (Call::Read { reg: 0x80 }, Some(0)) => "why kept over a read of 80h",
+            (Call::Word { .. } | Call::Words { .. }, Some(0)) => "why kept over words",
+            (Call::Open { .. }, Some(0)) => "why 0 again by an opening",
+            (Call::Reset, Some(0)) => "why 0 again by a reset",
+            _ => return,
+        };
+        self.count(what);
     }
 
     fn note_refused_sector(&mut self, step: &Done) {
@@ -137,16 +190,8 @@ impl Happenings {
     }
 
     fn note_damage(&mut self, damage: Damage) {
-        let alone = damage.kinds() == 1;
         self.count_if(!damage.is_judged(), "good sector");
         self.count_if(!damage.is_judged() && damage.zeros, "good sector with other bytes for its zeros");
-        self.count_if(alone && damage.sync, "sector wrong in its sync alone");
-        self.count_if(alone && damage.mode, "sector wrong in its mode alone");
-        self.count_if(alone && damage.code, "sector wrong in its code alone");
-        self.count_if(alone && damage.address, "sector wrong in its address alone");
-        self.count_if(damage.kinds() == 2, "sector wrong in two ways");
-        self.count_if(damage.kinds() == 3, "sector wrong in three ways");
-        self.count_if(damage.kinds() == 4, "sector wrong in four ways");
         self.count_if(damage.bits() == 0x41, "sector with STAERR and HCEI");
     }
 

@@ -3,7 +3,7 @@
 //! that every kept number can be compared after each call, and any record loaded.
 
 use cdrom::raw::CHIP_WORDS;
-use ecma130::Address;
+use ecma130::{Address, Facts};
 use model::{Chip, Transfer, Window};
 
 pub type Record = [u16; CHIP_WORDS];
@@ -28,8 +28,9 @@ pub const PACKET_WORDS: usize = 15;
 pub const BURST_LIMITS: usize = 16;
 /// 31h low and 32h high, then 34h low and 35h high.
 const TASK_FILE: usize = 17;
-const COMMAND: usize = 19;
-const SWITCHES: usize = 20;
+/// The last command in the low byte, and the facts of the last stored sector in the four bits above it.
+pub const COMMAND: usize = 19;
+pub const SWITCHES: usize = 20;
 pub const STATUS: usize = 21;
 const PACKET: usize = 22;
 
@@ -38,7 +39,15 @@ pub const RUNNING: u8 = 6;
 pub const HIRQ: u8 = 7;
 pub const RECEIVING: u8 = 13;
 
-const COMMAND_BITS: u16 = 0x00FF;
+/// Bits of the word `COMMAND`.
+pub const ADDRESS_FAILED: u8 = 8;
+pub const EDC_FAILED: u8 = 9;
+pub const MODE_FAILED: u8 = 10;
+pub const SYNC_FAILED: u8 = 11;
+
+/// What stands for something.
+const COMMAND_BITS: u16 = 0x0FFF;
+const SWITCH_BITS: u16 = 0x3FFF;
 const STATUS_BITS: u16 = 0x3FFF;
 
 const NUMBERS: [&str; 16] = [
@@ -61,11 +70,37 @@ const NUMBERS: [&str; 16] = [
 ];
 
 /// Names of the low and the high byte.
-const BYTES: [[&str; 2]; 4] = [["ATLIM", "MBC"], ["31h", "32h"], ["34h", "35h"], ["last command", "unused byte"]];
+const BYTES: [[&str; 2]; 3] = [["ATLIM", "MBC"], ["31h", "32h"], ["34h", "35h"]];
+
+/// Above the last command.
+const FACT_NAMES: [&str; 8] = [
+    "address failed",
+    "EDC failed",
+    "mode failed",
+    "sync failed",
+    "unused bit 12 beside the facts",
+    "unused bit 13 beside the facts",
+    "unused bit 14 beside the facts",
+    "unused bit 15 beside the facts",
+];
 
 const SWITCH_NAMES: [&str; 16] = [
-    "held", "DECEN", "BLIMEN", "BLIMS", "ATTEN", "ACMEN", "TCINCEN", "ADSC", "APKTEN", "ADCEN", "ASCEN", "AUTOEN",
-    "STWCEN", "A0IEN", "STAERR", "HCEI",
+    "held",
+    "DECEN",
+    "BLIMEN",
+    "BLIMS",
+    "ATTEN",
+    "ACMEN",
+    "TCINCEN",
+    "ADSC",
+    "APKTEN",
+    "ADCEN",
+    "ASCEN",
+    "AUTOEN",
+    "STWCEN",
+    "A0IEN",
+    "unused bit 14 of the switches",
+    "unused bit 15 of the switches",
 ];
 
 const STATUS_NAMES: [&str; 16] = [
@@ -83,8 +118,8 @@ const STATUS_NAMES: [&str; 16] = [
     "APKT",
     "FPKT",
     "packet is received",
-    "unused bit 14",
-    "unused bit 15",
+    "unused bit 14 of the status",
+    "unused bit 15 of the status",
 ];
 
 pub fn bit(word: u16, place: u8) -> bool {
@@ -97,6 +132,22 @@ pub fn is_running(record: &Record) -> bool {
 
 pub fn is_receiving(record: &Record) -> bool {
     bit(record[STATUS], RECEIVING)
+}
+
+/// The address that the next sector must have, whatever its numbers are.
+pub fn expected(record: &Record) -> Address {
+    Address::new(record[MINUTE], record[SECOND], record[FRAME])
+}
+
+/// The facts as one number, whatever else the word holds.
+pub fn why(record: &Record) -> u32 {
+    (record[COMMAND] >> ADDRESS_FAILED & 15) as u32
+}
+
+/// The record with these facts.
+pub fn with_why(mut record: Record, why: u16) -> Record {
+    record[COMMAND] = record[COMMAND] & !(15 << ADDRESS_FAILED) | why << ADDRESS_FAILED;
+    record
 }
 
 /// The flags from bit 0 on.
@@ -136,13 +187,18 @@ pub fn encoded(chip: &Chip) -> Record {
     record[BURST_LIMITS] = pair(chip.atlim as u8, chip.mbc as u8);
     record[TASK_FILE] = pair(chip.reg31, chip.reg32);
     record[TASK_FILE + 1] = pair(chip.reg34, chip.reg35);
-    record[COMMAND] = chip.command as u16;
+    record[COMMAND] = pair(chip.command, facts(&chip.facts) as u8);
     record[SWITCHES] = switches(chip);
     record[STATUS] = status(chip);
     for (place, bytes) in chip.packet.chunks_exact(2).enumerate() {
         record[PACKET + place] = pair(bytes[0], bytes[1]);
     }
     record
+}
+
+/// From the lowest weight on.
+fn facts(facts: &Facts) -> u16 {
+    joined(&[facts.address, facts.edc, facts.mode, facts.sync])
 }
 
 fn switches(chip: &Chip) -> u16 {
@@ -161,8 +217,6 @@ fn switches(chip: &Chip) -> u16 {
         chip.autoen,
         chip.stwcen,
         chip.a0ien,
-        chip.decoder_status & 0x40 != 0,
-        chip.decoder_status & 0x01 != 0,
     ])
 }
 
@@ -197,7 +251,7 @@ pub fn decoded(record: &Record) -> Chip {
     chip.tcc = number(TCC);
     chip.bufc = number(BUFC);
     chip.ttc = number(TTC);
-    chip.expected = Address::new(record[MINUTE], record[SECOND], record[FRAME]);
+    chip.expected = expected(record);
     chip.buflim = number(BUFLIM);
     chip.window = Window { offset: number(OFFSET), words: number(WORDS) };
     chip.transfer = is_running(record).then(|| Transfer { blocks_left: number(BLOCKS_LEFT), place: number(PLACE) });
@@ -207,12 +261,22 @@ pub fn decoded(record: &Record) -> Chip {
     [chip.reg31, chip.reg32] = record[TASK_FILE].to_le_bytes();
     [chip.reg34, chip.reg35] = record[TASK_FILE + 1].to_le_bytes();
     chip.command = record[COMMAND] as u8;
+    chip.facts = facts_of(record[COMMAND]);
     for (bytes, word) in chip.packet.chunks_exact_mut(2).zip(&record[PACKET..]) {
         bytes.copy_from_slice(&word.to_le_bytes());
     }
     set_switches(&mut chip, record[SWITCHES]);
     set_status(&mut chip, record[STATUS]);
     chip
+}
+
+fn facts_of(word: u16) -> Facts {
+    Facts {
+        sync: bit(word, SYNC_FAILED),
+        mode: bit(word, MODE_FAILED),
+        edc: bit(word, EDC_FAILED),
+        address: bit(word, ADDRESS_FAILED),
+    }
 }
 
 fn set_switches(chip: &mut Chip, word: u16) {
@@ -230,7 +294,6 @@ fn set_switches(chip: &mut Chip, word: u16) {
     chip.autoen = bit(word, 11);
     chip.stwcen = bit(word, 12);
     chip.a0ien = bit(word, 13);
-    chip.decoder_status = (bit(word, 14) as u8) << 6 | bit(word, 15) as u8;
 }
 
 fn set_status(chip: &mut Chip, word: u16) {
@@ -251,6 +314,7 @@ fn set_status(chip: &mut Chip, word: u16) {
 /// The record without the bits that stand for nothing.
 pub fn without_unused_bits(mut record: Record) -> Record {
     record[COMMAND] &= COMMAND_BITS;
+    record[SWITCHES] &= SWITCH_BITS;
     record[STATUS] &= STATUS_BITS;
     record
 }
@@ -269,7 +333,9 @@ fn part(place: usize, changed: u16) -> (String, u32, u32) {
     let half = (lowest / 8) as usize;
     match place {
         0..BURST_LIMITS => (NUMBERS[place].to_string(), 0, 16),
-        BURST_LIMITS..SWITCHES => (BYTES[place - BURST_LIMITS][half].to_string(), 8 * half as u32, 8),
+        BURST_LIMITS..COMMAND => (BYTES[place - BURST_LIMITS][half].to_string(), 8 * half as u32, 8),
+        COMMAND if half == 0 => ("last command".to_string(), 0, 8),
+        COMMAND => (FACT_NAMES[lowest as usize - 8].to_string(), lowest, 1),
         SWITCHES => (SWITCH_NAMES[lowest as usize].to_string(), lowest, 1),
         STATUS => (STATUS_NAMES[lowest as usize].to_string(), lowest, 1),
         _ => (format!("packet byte {}", 2 * (place - PACKET) + half), 8 * half as u32, 8),
@@ -313,7 +379,21 @@ mod tests {
                 names.insert(name);
             }
         }
-        assert_eq!(names.len(), 16 + 8 + 16 + 16 + 12);
+        assert_eq!(names.len(), 16 + 6 + 1 + 8 + 16 + 16 + 12);
+    }
+
+    /// By the weights of `why`, and beside any command and any bits that stand for nothing.
+    #[test]
+    fn facts_stand_above_the_command() {
+        for why in 0..16 {
+            let mut record = [0; CHIP_WORDS];
+            record[COMMAND] = 0xF0A0;
+            let record = with_why(record, why);
+            assert_eq!((super::why(&record), record[COMMAND] & 0xF0FF), (why as u32, 0xF0A0));
+            let chip = decoded(&record);
+            assert_eq!((chip.facts.why() as u16, chip.command), (why, 0xA0));
+            assert_eq!(encoded(&chip)[COMMAND], why << 8 | 0xA0);
+        }
     }
 
     #[test]

@@ -10,7 +10,7 @@ use crate::happenings::{
 };
 use crate::library::Library;
 use crate::limits::{Change, NEIGHBOURS, SPOILINGS};
-use crate::loading::{all_but_one_in_range, any_words, flipped, in_range};
+use crate::loading::{all_but_one_in_range, any_words, flipped, in_range, with_any_facts};
 use crate::memory::Memory;
 use crate::record::{Record, BLOCKS};
 use crate::soundness::is_sound;
@@ -21,7 +21,7 @@ use model::{Chip, Random, BLOCK_BYTES};
 /// Calls of the line between two records that are loaded, on average; transfers and receptions are
 /// short, and much is asked of their numbers.
 const BETWEEN_LOADS: u64 = 40;
-const BETWEEN_LOADS_IF_ENGAGED: u64 = 10;
+const BETWEEN_LOADS_IF_ENGAGED: u64 = 8;
 /// Calls that follow one another on a record that was loaded.
 const WALK: usize = 8;
 /// Numbers of blocks that cannot be opened.
@@ -96,13 +96,13 @@ impl<'a, L: Library> Run<'a, L> {
 
     fn load(&mut self) -> Result<(), Box<Difference>> {
         let record = self.state.record;
-        let (kind, words) = match self.random.below(12) {
+        let (kind, words) = match self.random.below(14) {
             0..=4 => return self.spoil(),
-            5..=6 => return self.go_to_a_limit(),
-            7 => return self.open(),
-            8 => (ANY_WORDS, any_words(&mut self.random)),
-            9 => (IN_RANGE, in_range(&mut self.random)),
-            10 => (ALL_BUT_ONE_IN_RANGE, all_but_one_in_range(&mut self.random)),
+            5..=8 => return self.go_to_a_limit(),
+            9 => return self.open(),
+            10 => (ANY_WORDS, any_words(&mut self.random)),
+            11 => (IN_RANGE, in_range(&mut self.random)),
+            12 => (ALL_BUT_ONE_IN_RANGE, all_but_one_in_range(&mut self.random)),
             _ => {
                 let words = flipped(&record, &mut self.random);
                 (if is_sound(&words) { FLIPPED_SOUND } else { FLIPPED_UNSOUND }, words)
@@ -142,6 +142,7 @@ impl<'a, L: Library> Run<'a, L> {
 
     /// Every kind of call on the record, each time as it was; then a walk, if it is sound.
     fn probe(&mut self, name: &str, record: Record) -> Result<(), Box<Difference>> {
+        let record = if self.random.one_in(2) { with_any_facts(record, &mut self.random) } else { record };
         let start = State::loaded(record);
         let chip = start.chip.unwrap_or(self.line_chip());
         for call in self.walker.every_call(&chip) {

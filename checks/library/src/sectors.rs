@@ -35,32 +35,33 @@ pub struct Sector {
 impl Damage {
     /// Any mixture of kinds, at least one of them judged.
     pub fn random(random: &mut Random) -> Damage {
-        let mut kind = || random.one_in(2);
-        let damage = Damage { sync: kind(), mode: kind(), code: kind(), address: kind(), zeros: kind() };
-        if damage.is_judged() {
-            damage
-        } else {
-            Damage::single(random.below(4), damage.zeros)
-        }
+        Damage::of_why(random.between(1, 15), random.one_in(2))
     }
 
     /// One kind alone.
-    pub fn single(kind: u64, zeros: bool) -> Damage {
-        Damage { sync: kind == 0, mode: kind == 1, code: kind == 2, address: kind == 3, zeros }
+    pub fn single(random: &mut Random) -> Damage {
+        Damage::of_why(random.pick(&[1, 2, 4, 8]), random.one_in(2))
+    }
+
+    /// By the weights of the kinds.
+    fn of_why(why: u16, zeros: bool) -> Damage {
+        let has = |weight: u16| why & weight != 0;
+        Damage { sync: has(8), mode: has(4), code: has(2), address: has(1), zeros }
     }
 
     pub fn is_judged(self) -> bool {
         self.sync || self.mode || self.code || self.address
     }
 
+    /// What judging must tell of it, by paper 02: sync 8, mode 4, EDC 2, address 1.
+    pub fn why(self) -> u32 {
+        let kinds = [(self.sync, 8), (self.mode, 4), (self.code, 2), (self.address, 1)];
+        kinds.iter().map(|&(kind, weight)| kind as u32 * weight).sum()
+    }
+
     /// What register 80h must show of it, by paper 01.
     pub fn bits(self) -> u32 {
         ((self.sync || self.mode || self.code) as u32) << 6 | self.address as u32
-    }
-
-    /// How many of the judged kinds there are.
-    pub fn kinds(self) -> usize {
-        [self.sync, self.mode, self.code, self.address].iter().filter(|&&kind| kind).count()
     }
 }
 
@@ -126,14 +127,14 @@ mod tests {
     #[test]
     fn each_mixture_is_judged_as_it_was_made() {
         let mut random = Random::new(1);
-        for number in 0..32 {
-            let kind = |place: u8| number >> place & 1 == 1;
-            let damage = Damage { sync: kind(0), mode: kind(1), code: kind(2), address: kind(3), zeros: kind(4) };
+        for (why, zeros) in (0..16).flat_map(|why| [(why, false), (why, true)]) {
+            let damage = Damage::of_why(why, zeros);
             for _ in 0..50 {
                 let mut bytes = Sector { damage, ..Sector::good(ADDRESS) }.make(&mut random);
                 open(&mut bytes).expect("its length is right");
-                let verdict = judge(&bytes, ADDRESS).expect("length and address are right");
-                assert_eq!(verdict.bits() as u32, damage.bits(), "{damage:?}");
+                let facts = judge(&bytes, ADDRESS).expect("length and address are right");
+                assert_eq!((facts.why() as u32, facts.bits() as u32), (damage.why(), damage.bits()), "{damage:?}");
+                assert_eq!((facts.why() as u16, facts.is_good()), (why, !damage.is_judged()));
             }
         }
     }

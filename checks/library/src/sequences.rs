@@ -46,7 +46,8 @@ impl Chooser {
 
     pub(crate) fn at_rest(&mut self, chip: &Chip) -> Call {
         match self.random.below(100) {
-            0..=24 => self.fill(chip),
+            0..=22 => self.fill(chip),
+            23..=24 => self.keep_facts(chip),
             25..=49 => self.serve(chip),
             50..=57 => self.packet_command(chip),
             58 => self.start_by_packet(),
@@ -94,6 +95,28 @@ impl Chooser {
             self.plan.push_back(Wish::Fill(good));
         }
         self.sector(chip)
+    }
+
+    /// A bad sector, and what must leave its facts or take them away.
+    fn keep_facts(&mut self, chip: &Chip) -> Call {
+        let (bad, other, good) = (self.bad_sector(chip), self.sector_with_one_fault(chip), self.good_sector(chip));
+        let (off, on) = (write(0x0A, 0x00), write(0x0A, 0x80));
+        if chip.tcc + 3 > chip.blocks {
+            self.follow(&[write(0x9D, 0)]);
+        }
+        self.follow(&[write(0x9A, 0x20), write(0x9C, 0x60), on, bad]);
+        match self.random.below(6) {
+            0 => self.follow(&[off, good, on, other]),
+            1 => self.follow(&[off, write(0x9A, 0x30), write(0x9B, 0), on, good, off, write(0x9A, 0x20), on, good]),
+            2 => self.follow(&[good, Call::Srst, Call::Read { reg: 0x80 }, off, on, other]),
+            3 => self.follow(&[Call::Read { reg: 0x80 }, off, on, other, Call::Read { reg: 0x80 }]),
+            4 => self.follow(&[Call::Reset]),
+            _ => {
+                let opening = self.opening();
+                self.follow(&[opening]);
+            }
+        }
+        off
     }
 
     /// At its stop a ring goes on when blocks are taken or the limit moves.
@@ -389,7 +412,7 @@ impl Chooser {
             Call::Command { code: 0x28 },
             Call::PacketWord { word: 1 },
         ];
-        if self.random.one_in(20) {
+        if self.random.one_in(12) {
             return self.random.pick(&[Call::Reset, Call::Open { blocks: 26 }]);
         }
         self.random.pick(&writes)

@@ -1,9 +1,11 @@
 //! The model in the library's place: the comparison can be tried by it, whatever the archive does.
 
 use crate::call::{Answer, Call};
+use crate::expectation::judged;
 use crate::library::{Lent, Library};
 use crate::record::{self, Record};
 use crate::state::{refused_opening, State};
+use ecma130::Address;
 
 pub struct StandIn;
 
@@ -21,5 +23,13 @@ impl Library for StandIn {
 
     fn irq(&mut self, record: &mut Record) -> u32 {
         record::bit(record[record::STATUS], record::HIRQ) as u32
+    }
+
+    fn why(&mut self, record: &mut Record) -> u32 {
+        record::why(record)
+    }
+
+    fn judge(&mut self, sector: &mut [u8], expected: Address) -> Answer {
+        judged(sector, expected)
     }
 }

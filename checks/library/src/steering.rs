@@ -54,7 +54,7 @@ impl Chooser {
     pub fn next(&mut self, chip: &Chip) -> Call {
         let call = self.fitting(chip);
         // Sectors and bursts come often enough.
-        let rarity = if matches!(call, Call::Look { .. } | Call::Word { .. }) { 8 } else { 20 };
+        let rarity = if matches!(call, Call::Look { .. } | Call::Word { .. }) { 5 } else { 20 };
         if call.lent().is_some() && self.random.one_in(rarity) {
             return call.with_lent(self.wrong_length(chip));
         }
@@ -132,13 +132,21 @@ impl Chooser {
     pub(crate) fn sector(&mut self, chip: &Chip) -> Call {
         match self.random.below(20) {
             0 => self.short_or_long_sector(chip),
-            1 => self.damaged(chip, |random| Damage::single(random.below(4), random.one_in(2))),
-            2..=3 => self.damaged(chip, Damage::random),
+            1 => self.sector_with_one_fault(chip),
+            2..=5 => self.bad_sector(chip),
             _ => self.good_sector(chip),
         }
     }
 
-    fn good_sector(&mut self, chip: &Chip) -> Call {
+    pub(crate) fn bad_sector(&mut self, chip: &Chip) -> Call {
+        self.damaged(chip, Damage::random)
+    }
+
+    pub(crate) fn sector_with_one_fault(&mut self, chip: &Chip) -> Call {
+        self.damaged(chip, Damage::single)
+    }
+
+    pub(crate) fn good_sector(&mut self, chip: &Chip) -> Call {
         self.damaged(chip, |random| Damage { zeros: random.one_in(8), ..Damage::default() })
     }
 

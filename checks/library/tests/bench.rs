@@ -40,7 +40,7 @@ impl Lent {
     }
 
     /// What the model leaves, line by line: an accepted sector line leaves its
-    /// sector in the buffer, and no other line a byte.
+    /// sector in the buffer as it arrived, and no other line a byte.
     fn run_by_model(&mut self, text: &[u8]) -> usize {
         let mut bench = Bench::over(std::mem::take(&mut self.memory));
         let mut size = 0;
@@ -52,9 +52,10 @@ impl Lent {
             let answer = match parse(line) {
                 Some(Call::Sector { .. }) if opened && self.sector.len() != SECTOR_BYTES => bench.line(REFUSED),
                 Some(Call::Sector { address, fill }) if opened => {
-                    let answer = bench.line(line);
+                    let (scratch, answer) = (bench.scratch(), bench.line(line));
                     if answer.contains(" answer=0 ") {
-                        self.sector = sealed(address, fill).expect("an accepted sector can be sealed");
+                        let sector = sealed(address, fill).expect("an accepted sector can be sealed");
+                        self.sector = scratch.over(sector);
                     }
                     answer
                 }
@@ -194,11 +195,12 @@ fn memory_of_any_length() {
 }
 
 /// After the same lines with and without a refused one at their end, the stale
-/// bytes that are left and those that were written are the same.
+/// bytes that are left and those that were written are the same; also where a scratch waits.
 #[test]
 fn a_refused_sector_line_changes_no_byte() {
     let opened = b"call=open ring=3\n".to_vec();
     let decoding = [&opened, SWITCHES].concat();
+    let hurt = |before: &[u8]| [before, b"call=scratch from=0 count=2352\n"].concat();
     let held = [&decoding[..], b"call=sector min=0 sec=9 frame=9 fill=8\n"].concat();
     let full = [&decoding[..], SECTOR, b"call=sector min=0 sec=2 frame=1 fill=9\n"].concat();
     let cases = [
@@ -209,6 +211,10 @@ fn a_refused_sector_line_changes_no_byte() {
         (&opened, b"call=sector min=0 sec=2 frame=0 fill=5\n", "answer=7"),
         (&held, b"call=sector min=0 sec=2 frame=0 fill=5\n", "answer=8"),
         (&full, b"call=sector min=0 sec=2 frame=2 fill=5\n", "answer=9"),
+        (&hurt(&decoding), b"call=sector min=0 sec=2 frame=0 fill=256\n", "answer=3"),
+        (&hurt(&opened), b"call=sector min=0 sec=2 frame=0 fill=5\n", "answer=7"),
+        (&hurt(&held), b"call=sector min=0 sec=2 frame=0 fill=5\n", "answer=8"),
+        (&hurt(&full), b"call=sector min=0 sec=2 frame=2 fill=5\n", "answer=9"),
     ];
     for (before, line, number) in cases {
         let text = [before, line].concat();
@@ -217,6 +223,49 @@ fn a_refused_sector_line_changes_no_byte() {
         let (with, size) = hold(&start, &text);
         assert_eq!(answers_of(&with, size).last().map(String::as_str), Some(number));
         assert!(with.memory == without.memory && with.sector == without.sector, "{number}");
+    }
+}
+
+/// Where nothing waits for a sector, where something does, and after a sector.
+#[test]
+fn a_scratch_line_changes_no_byte() {
+    let lines: [(&[u8], &str); 6] = [
+        (b"call=scratch from=0 count=2352\n", "answer=0"),
+        (b"call=scratch from=2352 count=0\n", "answer=0"),
+        (b"call=scratch from=65535 count=0\n", "answer=3"),
+        (b"call=scratch from=1 count=65535\n", "answer=3"),
+        (b"call=scratch from=0 count=65536\n", "answer=2"),
+        (b"call=scratch from=0\n", "answer=2"),
+    ];
+    let waiting = [OPEN, SWITCHES, b"call=scratch from=9 count=9\n"].concat();
+    let stored = [OPEN, SWITCHES, SECTOR].concat();
+    for before in [OPEN, &waiting, &stored] {
+        for (line, number) in lines {
+            let text = [before, line].concat();
+            let start = Lent::stale(13, &text);
+            let (without, _) = hold(&start, before);
+            let (with, size) = hold(&start, &text);
+            assert_eq!(answers_of(&with, size).last().map(String::as_str), Some(number));
+            assert!(with.memory == without.memory && with.sector == without.sector, "{number}");
+        }
+    }
+}
+
+/// Told from the library's own sector calls, for runs about every edge of a field and the whole sector.
+#[test]
+fn the_buffer_and_the_block_hold_the_sector_as_it_arrived() {
+    let mut sector = [vec![0; 16], vec![7; 2048], vec![0; 288]].concat();
+    cdrom::seal(&mut sector, cdrom::Address { minute: 0, second: 2, frame: 0 }).expect("a sector");
+    let runs = [0..1, 0..12, 11..13, 12..15, 15..16, 16..2064, 2063..2065, 2064..2068, 2068..2352, 0..2352, 2352..2352];
+    for run in runs {
+        let scratch = format!("call=scratch from={} count={}\n", run.start, run.len());
+        let text = [OPEN, SWITCHES, scratch.as_bytes(), SECTOR].concat();
+        let (end, _) = hold(&Lent::stale(14, &text), &text);
+        let mut arrived = sector.clone();
+        arrived[run.clone()].iter_mut().for_each(|byte| *byte = !*byte);
+        assert!(end.sector == arrived, "{run:?}");
+        cdrom::open(&mut arrived).expect("a sector");
+        assert!(end.memory[..SECTOR_BYTES] == arrived, "{run:?}");
     }
 }
 

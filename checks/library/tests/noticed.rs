@@ -2,6 +2,7 @@
 
 mod faulty;
 
+use ecma130::Address;
 use faulty::{Faulty, Made};
 use library::record::Record;
 use library::{run, Answer, Call, Lent, Library, StandIn};
@@ -141,28 +142,92 @@ fn any_byte_of_the_ring() {
     }
 }
 
-/// Its interrupt line is never high.
-struct Silent;
+/// Right but in the calls that have no reply number, and in judging.
+struct Partly {
+    irq: fn(u32) -> u32,
+    why: fn(u32) -> u32,
+    judge: fn(u32) -> u32,
+    /// Judging changes this byte of the sector that it is lent.
+    touched: Option<usize>,
+}
 
-impl Library for Silent {
+fn as_it_is(number: u32) -> u32 {
+    number
+}
+
+const RIGHT: Partly = Partly { irq: as_it_is, why: as_it_is, judge: as_it_is, touched: None };
+
+impl Library for Partly {
     fn call(&mut self, record: &mut Record, call: &Call, lent: Lent) -> Answer {
         StandIn.call(record, call, lent)
     }
 
-    fn irq(&mut self, _record: &mut Record) -> u32 {
-        0
+    fn irq(&mut self, record: &mut Record) -> u32 {
+        (self.irq)(StandIn.irq(record))
     }
+
+    fn why(&mut self, record: &mut Record) -> u32 {
+        (self.why)(StandIn.why(record))
+    }
+
+    fn judge(&mut self, sector: &mut [u8], expected: Address) -> Answer {
+        let answer = StandIn.judge(sector, expected);
+        if let Some(byte) = self.touched.and_then(|place| sector.get_mut(place)) {
+            *byte ^= 1;
+        }
+        match answer {
+            Answer::Reply { number: 0, result } => Answer::Reply { number: 0, result: (self.judge)(result) },
+            refused => refused,
+        }
+    }
+}
+
+#[track_caller]
+fn is_told_as(what: &str, mut library: Partly) {
+    let difference = run(&mut library, SEED, CALLS).expect_err("something is wrong");
+    assert!(difference.part.what.starts_with(what), "{difference}");
 }
 
 #[test]
 fn a_silent_interrupt_line() {
-    let difference = run(&mut Silent, SEED, CALLS).expect_err("the line is never high");
-    assert_eq!(difference.part.what, "the interrupt line");
+    is_told_as("the interrupt line", Partly { irq: |_| 0, ..RIGHT });
+}
+
+/// Never a fact, one that is never told or always, another weight, and the byte of 80h.
+#[test]
+fn other_facts() {
+    let wrong: [fn(u32) -> u32; 8] = [
+        |_| 0,
+        |why| why & !1,
+        |why| why & !8,
+        |why| why | 2,
+        |why| why.reverse_bits() >> 28,
+        swapped,
+        |why| if why & 8 != 0 { why & !2 } else { why },
+        |why| (why >= 2) as u32 * 0x40 + (why & 1),
+    ];
+    for change in wrong {
+        is_told_as("why of the last stored sector", Partly { why: change, ..RIGHT });
+        is_told_as("the judgement", Partly { judge: change, ..RIGHT });
+    }
+}
+
+/// With the weights of mode and EDC exchanged.
+fn swapped(why: u32) -> u32 {
+    why & 9 | (why & 4) >> 1 | (why & 2) << 1
+}
+
+#[test]
+fn a_judged_sector_is_changed() {
+    for place in [0, 15, 2064, 2351] {
+        is_told_as(&format!("the judged sector, byte {place}"), Partly { touched: Some(place), ..RIGHT });
+    }
 }
 
 #[test]
 fn nothing_where_nothing_is_wrong() {
     run(&mut StandIn, SEED, CALLS).expect("the model against itself");
+    run(&mut Partly { ..RIGHT }, SEED, CALLS).expect("and with nothing changed");
 }
 
 /// What is told of a difference is enough to make it again.

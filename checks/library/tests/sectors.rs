@@ -2,7 +2,7 @@
 
 mod common;
 
-use cdrom::{Refusal, Verdict};
+use cdrom::{raw, Facts, Refusal};
 use common::{judge, open, seal, valid_address, GOOD};
 use ecma130::{edc_bitwise, Address, EDC_START, SECTOR_BYTES, USER_BYTES, USER_START};
 use model::Random;
@@ -26,6 +26,11 @@ fn with_code(mut sector: Vec<u8>) -> Vec<u8> {
     sector
 }
 
+/// What fails by a damaged byte, but for the code.
+fn failed_in_header(place: usize) -> Facts {
+    Facts { sync: place < 12, mode: place == 15, address: (12..15).contains(&place), ..GOOD }
+}
+
 #[test]
 fn sealed_and_opened_gives_user_bytes_and_address_back() {
     let mut random = Random::new(1);
@@ -39,7 +44,7 @@ fn sealed_and_opened_gives_user_bytes_and_address_back() {
         assert_eq!(sector[12..15], address.bcd());
         assert_eq!(judge(&sector, address), Ok(GOOD));
         let other = valid_address(&mut random);
-        assert_eq!(judge(&sector, other), Ok(Verdict { staerr: false, hcei: other != address }));
+        assert_eq!(judge(&sector, other), Ok(Facts { address: other != address, ..GOOD }));
     }
 }
 
@@ -60,7 +65,7 @@ fn every_single_bit() {
     for bit in 0..SECTOR_BYTES * 8 {
         let place = bit / 8;
         sector[place] ^= 1 << (bit % 8);
-        let expected = Verdict { staerr: place < ZEROS_START, hcei: (12..15).contains(&place) };
+        let expected = Facts { edc: place < ZEROS_START, ..failed_in_header(place) };
         assert_eq!(judge(&sector, ADDRESS), Ok(expected), "bit {bit}");
         sector[place] ^= 1 << (bit % 8);
     }
@@ -89,8 +94,39 @@ fn each_test_alone_under_a_fitting_code() {
         let place = bit / 8;
         let mut damaged = sector.clone();
         damaged[place] ^= 1 << (bit % 8);
-        let expected = Verdict { staerr: place < 12 || place == 15, hcei: (12..15).contains(&place) };
-        assert_eq!(judge(&with_code(damaged), ADDRESS), Ok(expected), "bit {bit}");
+        assert_eq!(judge(&with_code(damaged), ADDRESS), Ok(failed_in_header(place)), "bit {bit}");
+    }
+}
+
+/// All sixteen values, each with damage of many kinds: none hides another. The answer itself is `why` above the number.
+#[test]
+fn each_of_the_sixteen_is_told() {
+    let mut random = Random::new(8);
+    let sector = good_sector(&mut random);
+    for why in (0..16).cycle().take(16 * 200) {
+        let mut damaged = sector.clone();
+        spoil_if(why & 8 != 0, &mut damaged[..12], &mut random);
+        spoil_if(why & 4 != 0, &mut damaged[15..16], &mut random);
+        spoil_if(why & 1 != 0, &mut damaged[12..15], &mut random);
+        let mut damaged = with_code(damaged);
+        spoil_if(why & 2 != 0, &mut damaged[EDC_START..ZEROS_START], &mut random);
+        assert_eq!(judge(&damaged, ADDRESS).map(Facts::why), Ok(why));
+        // SAFETY: the pointer and the length are those of the sector, which is only read.
+        let answer = unsafe { raw::cdrom_judge(damaged.as_ptr(), damaged.len(), 12, 34, 56) };
+        assert_eq!(answer, (why as u32) << 8);
+    }
+}
+
+/// Changes one of the bytes, or all of them.
+fn spoil_if(wanted: bool, bytes: &mut [u8], random: &mut Random) {
+    if !wanted {
+        return;
+    }
+    let place = random.below(bytes.len() as u64) as usize;
+    match random.below(3) {
+        0 => bytes.fill(0x5B),
+        1 => bytes[place] = !bytes[place],
+        _ => bytes[place] ^= 1 << random.below(8),
     }
 }
 
@@ -128,6 +164,6 @@ fn check_address(before: &[u8], address: Address) {
     let mut sector = before.to_vec();
     let answer = if valid { Ok(()) } else { Err(Refusal::OutOfRange) };
     assert_eq!(seal(&mut sector, address), answer);
-    assert_eq!(judge(before, address), answer.map(|()| Verdict { staerr: false, hcei: true }));
+    assert_eq!(judge(before, address), answer.map(|()| Facts { address: true, ..GOOD }));
     assert_eq!(sector == before, !valid, "{address:?}");
 }

@@ -1,10 +1,11 @@
 //! Libraries that are wrong in a way of their own: the slips that paper 01 has seen on other
-//! boards, and those that it wants shut out. Each must be noticed.
+//! boards, those that it wants shut out, and such as the kept facts may have. Each must be noticed.
 
 mod faulty;
 
+use ecma130::open;
 use faulty::{Faulty, Made};
-use library::record::{is_running, B, BLOCKS, BUFC, BURST_LIMITS, PLACE, T, TCC, TTC};
+use library::record::{expected, is_running, why, with_why, B, BLOCKS, BUFC, BURST_LIMITS, PLACE, T, TCC, TTC};
 use library::{run, Answer, Call};
 use model::BLOCK_BYTES;
 
@@ -120,5 +121,120 @@ fn blocks_are_counted_only_at_the_end_of_a_transfer() {
             }
         }
         within
+    });
+}
+
+/// Leaves other facts in the record, and says whether they are others.
+fn leave_facts(made: Made, facts: u32) -> bool {
+    let others = why(made.record) != facts;
+    *made.record = with_why(*made.record, facts as u16);
+    others
+}
+
+/// What the facts of the call's sector would be, had it been taken.
+fn facts_of_sector(made: &Made) -> Option<u32> {
+    let mut sector = made.lent.sector.to_vec();
+    open(&mut sector).ok()?;
+    ecma130::judge(&sector, expected(made.before)).ok().map(|facts| facts.why() as u32)
+}
+
+fn is_refused_sector(made: &Made, number: u32) -> bool {
+    matches!(made.call, Call::Sector { .. }) && made.answer.number() == Some(number)
+}
+
+#[test]
+fn the_facts_of_a_refused_sector_are_kept() {
+    for number in [7, 8, 9] {
+        is_noticed(|made| match facts_of_sector(&made) {
+            Some(facts) if is_refused_sector(&made, number) => leave_facts(made, facts),
+            _ => false,
+        });
+    }
+}
+
+#[test]
+fn a_refused_sector_takes_the_facts_away() {
+    for number in [1, 7, 8, 9] {
+        is_noticed(|made| is_refused_sector(&made, number) && leave_facts(made, 0));
+    }
+}
+
+#[test]
+fn a_failed_sync_hides_the_code() {
+    is_noticed(|made| {
+        let facts = why(made.record);
+        is_taken_sector(&made) && facts & 8 != 0 && leave_facts(made, facts & !2)
+    });
+}
+
+#[test]
+fn a_fact_hides_another() {
+    for (seen, hidden) in [(8, 4), (4, 2), (2, 1), (8, 1), (1, 2), (1, 8)] {
+        is_noticed(|made| {
+            let facts = why(made.record);
+            is_taken_sector(&made) && facts & seen != 0 && leave_facts(made, facts & !hidden)
+        });
+    }
+}
+
+#[test]
+fn mode_and_code_have_each_others_weight() {
+    is_noticed(|made| {
+        let facts = why(made.record);
+        is_taken_sector(&made) && leave_facts(made, facts & 9 | (facts & 4) >> 1 | (facts & 2) << 1)
+    });
+}
+
+#[test]
+fn facts_are_added_up_from_sector_to_sector() {
+    is_noticed(|made| {
+        let facts = why(made.record) | why(made.before);
+        is_taken_sector(&made) && leave_facts(made, facts)
+    });
+}
+
+#[test]
+fn facts_of_bad_sectors_alone_are_kept() {
+    is_noticed(|made| {
+        let before = why(made.before);
+        is_taken_sector(&made) && made.answer.result() == 0 && leave_facts(made, before)
+    });
+}
+
+#[test]
+fn facts_go_where_they_must_stay() {
+    let calls: [fn(&Call) -> bool; 5] = [
+        |call| *call == Call::Write { reg: 0x0A, value: 0x00 },
+        |call| *call == Call::Read { reg: 0x80 },
+        |call| matches!(call, Call::Srst),
+        |call| matches!(call, Call::Status),
+        |call| matches!(call, Call::Word { .. } | Call::Words { .. }),
+    ];
+    for clears in calls {
+        is_noticed(|made| made.answer.is_done() && clears(made.call) && leave_facts(made, 0));
+    }
+}
+
+#[test]
+fn facts_stay_where_they_must_go() {
+    let calls: [fn(&Call) -> bool; 2] = [|call| matches!(call, Call::Reset), |call| matches!(call, Call::Open { .. })];
+    for keeps in calls {
+        is_noticed(|made| {
+            let before = why(made.before);
+            made.answer.is_done() && keeps(made.call) && leave_facts(made, before)
+        });
+    }
+}
+
+/// 80h and the sector call's result are made from the facts and are not the facts.
+#[test]
+fn the_result_is_why() {
+    is_noticed(|made| {
+        let facts = why(made.record);
+        let others = is_taken_sector(&made) && made.answer.result() != facts;
+        if others {
+            *made.answer = Answer::Reply { number: 0, result: facts };
+        }
+        others
     });
 }

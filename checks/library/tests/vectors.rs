@@ -1,6 +1,6 @@
 //! All records of the outside vectors through the library.
 
-use cdrom::{edc, judge, open, seal, Address, Verdict};
+use cdrom::{edc, judge, open, seal, Address, Facts};
 use records::Record;
 
 fn address(record: &Record) -> Address {
@@ -27,7 +27,9 @@ fn every_record_opens_and_only_mode_1_is_sound() {
         let mut sector = record.scrambled.clone();
         open(&mut sector).unwrap();
         assert_eq!(sector, record.clear);
-        let expected = Verdict { staerr: !record.is_mode_1(), hcei: false };
+        // By the mode 1 rule a sector of mode 2 has no code either.
+        let mode_2 = !record.is_mode_1();
+        let expected = Facts { sync: false, mode: mode_2, edc: mode_2, address: false };
         assert_eq!(judge(&sector, address(&record)), Ok(expected));
     }
 }

@@ -2,6 +2,7 @@
 
 use crate::call::{parse, Call};
 use crate::chip::{Answer, Chip, Refusal, BLOCK_BYTES};
+use crate::scratch::Scratch;
 use ecma130::{seal, Address, EDC_START, SECTOR_BYTES, USER_START};
 
 const MAX_RING: u16 = 25;
@@ -11,6 +12,8 @@ pub struct Bench {
     lines: u64,
     chip: Option<Chip>,
     memory: Vec<u8>,
+    /// What the next sector will have suffered. It is the disc's, so that no call to the chip touches it.
+    scratch: Scratch,
 }
 
 impl Default for Bench {
@@ -27,7 +30,7 @@ impl Bench {
     /// A bench over memory of any bytes; a ring that it is too short for can be
     /// opened, but neither filled nor served.
     pub fn over(memory: Vec<u8>) -> Bench {
-        Bench { lines: 0, chip: None, memory }
+        Bench { lines: 0, chip: None, memory, scratch: Scratch::NONE }
     }
 
     /// The memory as the last line left it. The open ring is its start.
@@ -40,6 +43,11 @@ impl Bench {
         self.chip.as_ref()
     }
 
+    /// The scratch that waits for its sector.
+    pub fn scratch(&self) -> Scratch {
+        self.scratch
+    }
+
     /// Takes a line without its newline and gives the printed one.
     pub fn line(&mut self, line: &[u8]) -> String {
         self.lines += 1;
@@ -48,12 +56,13 @@ impl Bench {
             Some(Ok(out)) => (0, out),
             Some(Err(refusal)) => (refusal as u16, 0),
         };
-        let (tcc, bufc, irq) = self.counters();
-        format!("n={} answer={answer} out={out} tcc={tcc} bufc={bufc} irq={irq}", self.lines)
+        let (tcc, bufc, why, irq) = self.kept();
+        format!("n={} answer={answer} out={out} tcc={tcc} bufc={bufc} why={why} irq={irq}", self.lines)
     }
 
-    fn counters(&self) -> (usize, usize, u8) {
-        self.chip.map_or((0, 0, 0), |chip| (chip.tcc, chip.bufc, chip.hirq as u8))
+    /// What every line shows of the chip; without one all is 0.
+    fn kept(&self) -> (usize, usize, u8, u8) {
+        self.chip.map_or((0, 0, 0, 0), |chip| (chip.tcc, chip.bufc, chip.facts.why(), chip.hirq as u8))
     }
 
     fn run(&mut self, call: Call) -> Answer {
@@ -64,22 +73,31 @@ impl Bench {
         let end = self.memory.len().min(chip.blocks * BLOCK_BYTES);
         let ring = &mut self.memory[..end];
         match call {
-            Call::Sector { address, fill } => chip.sector(ring, &sealed(address, fill)?),
+            Call::Scratch { from, count } => {
+                self.scratch = Scratch::new(from, count)?;
+                Ok(0)
+            }
+            Call::Sector { address, fill } => {
+                let result = chip.sector(ring, &self.scratch.over(sealed(address, fill)?))?;
+                self.scratch = Scratch::NONE;
+                Ok(result)
+            }
             other => run_on(chip, ring, other),
         }
     }
 
-    /// A refused opening keeps the chip there was.
+    /// A refused opening keeps the chip there was, and the scratch.
     fn open(&mut self, ring: u16) -> Answer {
         if ring > MAX_RING {
             return Err(Refusal::Unsound);
         }
         self.chip = Some(Chip::open(ring)?);
+        self.scratch = Scratch::NONE;
         Ok(0)
     }
 }
 
-/// Runs any call that needs neither an opening nor a sealed sector.
+/// Runs any call to a chip that needs neither an opening nor a sealed sector.
 pub fn run_on(chip: &mut Chip, ring: &mut [u8], call: Call) -> Answer {
     match call {
         Call::Read { reg } => chip.read(reg),
@@ -95,7 +113,7 @@ pub fn run_on(chip: &mut Chip, ring: &mut [u8], call: Call) -> Answer {
         Call::Send { word } => chip.packet_word(word),
         Call::Status => chip.host_status(),
         Call::Srst => chip.srst(),
-        Call::Open { .. } | Call::Sector { .. } => unreachable!("taken by the callers"),
+        Call::Open { .. } | Call::Sector { .. } | Call::Scratch { .. } => unreachable!("taken by the callers"),
     }
 }
 

@@ -1,13 +1,15 @@
 //! The book of demand 3: fed only calls and their replies, it says which
-//! word the host must get. It knows nothing of blocks or registers.
+//! word the host must get, and what failed in the last sector. It knows nothing of blocks or registers.
 
 use crate::call::Call;
-use ecma130::{judge, open, Address};
+use ecma130::{judge, open, Address, Facts};
 
 pub struct Book {
     /// Good sectors, descrambled, oldest first.
     pub row: Vec<Vec<u8>>,
     pub expected: Address,
+    /// Of the last sector accepted since the opening or a chip reset.
+    pub facts: Facts,
     offset: usize,
     words: usize,
     acmen: bool,
@@ -22,14 +24,15 @@ impl Default for Book {
 
 impl Book {
     pub fn new() -> Book {
-        Book { row: Vec::new(), expected: Address::new(0, 2, 0), offset: 0, words: 0, acmen: false, words_taken: 0 }
+        let (expected, facts) = (Address::new(0, 2, 0), Facts::default());
+        Book { row: Vec::new(), expected, facts, offset: 0, words: 0, acmen: false, words_taken: 0 }
     }
 
     pub fn accepted_sector(&mut self, sector: &[u8]) {
         let mut clear = sector.to_vec();
         open(&mut clear).expect("an accepted sector has its length");
-        let verdict = judge(&clear, self.expected).expect("the address is valid");
-        if verdict.is_good() {
+        self.facts = judge(&clear, self.expected).expect("the address is valid");
+        if self.facts.is_good() {
             self.row.push(clear);
             self.expected = self.expected.next();
         }

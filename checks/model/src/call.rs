@@ -21,10 +21,11 @@ pub enum Call {
     Status,
     Srst,
     Sector { address: Address, fill: u16 },
+    Scratch { from: u16, count: u16 },
 }
 
 /// Every call's name with its keys, in the only order allowed.
-const FORMS: [(&str, &[&str]); 15] = [
+const FORMS: [(&str, &[&str]); 16] = [
     ("open", &["ring"]),
     ("read", &["reg"]),
     ("write", &["reg", "value"]),
@@ -40,6 +41,7 @@ const FORMS: [(&str, &[&str]); 15] = [
     ("status", &[]),
     ("srst", &[]),
     ("sector", &["min", "sec", "frame", "fill"]),
+    ("scratch", &["from", "count"]),
 ];
 
 impl Call {
@@ -64,6 +66,7 @@ impl Call {
             Call::Status => ("status", vec![]),
             Call::Srst => ("srst", vec![]),
             Call::Sector { address: a, fill } => ("sector", vec![a.minute, a.second, a.frame, fill]),
+            Call::Scratch { from, count } => ("scratch", vec![from, count]),
         }
     }
 
@@ -122,6 +125,7 @@ fn build(name: &str, n: &[u16]) -> Call {
         "status" => Call::Status,
         "srst" => Call::Srst,
         "sector" => Call::Sector { address: Address::new(n[0], n[1], n[2]), fill: n[3] },
+        "scratch" => Call::Scratch { from: n[0], count: n[1] },
         _ => unreachable!("a name without keys was refused before"),
     }
 }
@@ -149,6 +153,7 @@ mod tests {
             Call::Status,
             Call::Srst,
             Call::Sector { address, fill: 65 },
+            Call::Scratch { from: 2352, count: 65535 },
         ];
         assert_eq!(calls.len(), FORMS.len());
         for call in calls {
@@ -158,7 +163,7 @@ mod tests {
 
     #[test]
     fn malformed_lines() {
-        let lines: [&[u8]; 24] = [
+        let lines: [&[u8]; 30] = [
             b"",
             b" ",
             b"call",
@@ -183,6 +188,12 @@ mod tests {
             b"call=write reg=1 reg=2",
             b"call=reset ",
             b"call=open ring=\xFF",
+            b"call=scratch",
+            b"call=scratch from=0",
+            b"call=scratch count=1 from=0",
+            b"call=scratch from=0 count=65536",
+            b"call=scratch from=0 count=1 count=1",
+            b"call=scratches from=0 count=1",
         ];
         for line in lines {
             assert_eq!(parse(line), None, "{}", String::from_utf8_lossy(line));

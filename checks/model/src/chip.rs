@@ -3,7 +3,7 @@
 //! A call tests its refusals first, in the order of their numbers, and only
 //! then changes anything.
 
-use ecma130::{judge, open, Address, SECTOR_BYTES};
+use ecma130::{judge, open, Address, Facts, SECTOR_BYTES};
 
 pub const BLOCK_BYTES: usize = 2560;
 const START_ADDRESS: Address = Address::new(0, 2, 0);
@@ -52,7 +52,8 @@ pub struct Chip {
     pub held: bool,
     pub expected: Address,
     pub last_block: usize,
-    pub decoder_status: u8,
+    /// What failed in the last sector that was stored.
+    pub facts: Facts,
     pub decen: bool,
     // 9Ah to 9Ch and 12h.
     pub blimen: bool,
@@ -137,7 +138,7 @@ impl Chip {
             held: false,
             expected: START_ADDRESS,
             last_block: 0,
-            decoder_status: 0,
+            facts: Facts::default(),
             decen: false,
             blimen: false,
             blims: false,
@@ -262,18 +263,22 @@ impl Chip {
         let block = &mut ring[self.b * BLOCK_BYTES..][..SECTOR_BYTES];
         block.copy_from_slice(sector);
         open(block).expect("the length was tested");
-        let verdict = judge(block, self.expected).expect("length and address were tested");
+        self.facts = judge(block, self.expected).expect("length and address were tested");
         self.last_block = self.b;
         self.b = (self.b + 1) % self.blocks;
         self.bufc += 1;
-        self.decoder_status = verdict.bits();
-        if verdict.is_good() {
+        if self.facts.is_good() {
             self.tcc += 1;
             self.expected = self.expected.next();
         } else {
             self.held = true;
         }
-        Ok(verdict.bits() as u16)
+        Ok(self.decoder_status())
+    }
+
+    /// Register 80h, made from the facts.
+    fn decoder_status(&self) -> u16 {
+        self.facts.bits() as u16
     }
 
     /// What was written after the good blocks is given up, a bad block too.
@@ -310,7 +315,7 @@ impl Chip {
             0x35 => self.reg35 as u16,
             0x37 => self.command as u16,
             0x38 => self.status_byte(),
-            0x80 => self.decoder_status as u16,
+            0x80 => self.decoder_status(),
             0x9A => at(self.blimen, 5) | at(self.blims, 4),
             0x9B => self.bufc as u16,
             0x9C => at(self.atten, 7) | at(self.acmen, 6) | at(self.tcincen, 5) | self.atlim as u16,

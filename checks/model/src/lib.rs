@@ -1,5 +1,5 @@
-//! The buffer board of paper 01 once more, as plainly as it can be said, and
-//! the bench program's line format on top of it. Written from the paper and the
+//! The buffer board of paper 01 once more, with request 1 of paper 02, as plainly as it can be said, and
+//! the bench program's line format on top of it. Written from the papers and the
 //! readings of docs/DECISIONS.md, to be compared line by line with the bench program.
 
 mod bench;
@@ -7,6 +7,7 @@ mod book;
 mod call;
 mod chip;
 mod random;
+mod scratch;
 mod script;
 
 pub use bench::{run_on, sealed, Bench};
@@ -14,4 +15,5 @@ pub use book::Book;
 pub use call::{parse, Call, MAX_LINE_BYTES};
 pub use chip::{Answer, Chip, Refusal, Transfer, Window, BLOCK_BYTES};
 pub use random::Random;
+pub use scratch::Scratch;
 pub use script::{random_script, Writer};

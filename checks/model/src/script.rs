@@ -2,6 +2,8 @@
 //! asks for is often possible: blind lines would hardly ever get as far as
 //! a transfer.
 
+mod stories;
+
 use crate::bench::Bench;
 use crate::call::{Call, MAX_LINE_BYTES};
 use crate::chip::Chip;
@@ -22,6 +24,14 @@ const WRONG_ADDRESSES: [Address; 3] = [Address::new(100, 0, 0), Address::new(0, 
 
 /// Parts of a sector whose words tell blocks apart.
 const TELLING_OFFSETS: [u16; 8] = [0, 10, 11, 12, 14, 2062, 2064, 2066];
+
+const MALFORMED_SCRATCHES: [&[u8]; 5] = [
+    b"call=scratch from=12",
+    b"call=scratch count=3 from=12",
+    b"call=scratch from=12 count=65536",
+    b"call=scratch from=12 count=3 ",
+    b"call=scratch from=12  count=3",
+];
 
 pub struct Writer {
     random: Random,
@@ -86,11 +96,14 @@ impl Writer {
 
     /// There is no way back to before the first opening, so it is put off.
     fn first_call(&mut self) -> Call {
-        if !self.random.one_in(6) {
-            let stand_in = Chip::open(3).expect("3 blocks are a ring");
-            return self.blind_call(&stand_in);
+        match self.random.below(12) {
+            0..=1 => self.opening(),
+            2..=3 => self.any_scratch(),
+            _ => {
+                let stand_in = Chip::open(3).expect("3 blocks are a ring");
+                self.blind_call(&stand_in)
+            }
         }
-        self.opening()
     }
 
     fn opening(&mut self) -> Call {
@@ -108,7 +121,8 @@ impl Writer {
             3..=10 => Call::Look,
             11..=16 => Call::Status,
             17..=30 => self.read(),
-            31..=46 => self.sector(chip),
+            31..=44 => self.sector(chip),
+            45..=46 => self.scratched_sector(chip),
             47..=50 => write(0x0A, 0x00),
             51..=60 => self.meddling(),
             _ => Call::Word,
@@ -129,7 +143,8 @@ impl Writer {
 
     fn call_at_rest(&mut self, chip: &Chip) -> Call {
         match self.random.below(100) {
-            0..=29 => self.fill(chip),
+            0..=26 => self.fill(chip),
+            27..=29 => self.scratch_story(chip),
             30..=54 => self.serve(chip),
             55..=64 => self.packet_command(chip),
             65..=72 => self.read(),
@@ -150,11 +165,12 @@ impl Writer {
     }
 
     fn rare_call(&mut self) -> Call {
-        match self.random.below(12) {
+        match self.random.below(15) {
             0..=1 => self.reset(),
             2 => Call::Word,
             3 => self.drop_count(),
-            4..=6 => self.long_start(),
+            4..=7 => self.long_start(),
+            8..=9 => self.start_by_packet(),
             _ => {
                 let opening = self.opening();
                 self.survey(opening)
@@ -180,6 +196,9 @@ impl Writer {
         }
         if chip.decen && chip.is_at_stop() && !self.random.one_in(5) {
             return self.make_room(chip);
+        }
+        if self.random.one_in(10) {
+            return self.scratched_sector(chip);
         }
         self.sector(chip)
     }
@@ -334,7 +353,7 @@ impl Writer {
     fn long_start(&mut self) -> Call {
         let ring = self.random.pick(&[25, 25, 25, 22, 18]);
         let good = if self.random.one_in(3) { self.random.between(17, ring - 1) } else { ring - 1 };
-        let switches = self.random.pick(&[0x60, 0x60, 0xE0]) | self.random.pick(&[0, 0, 0, 16, 31]);
+        let switches = self.random.pick(&[0x60, 0x60, 0xE0]) | self.random.pick(&[0, 0, 0, 16, 16, 31]);
         let words = self.random.pick(&[1, 2, 1024, 1100, 1176]);
         let window = Call::Window { offset: 0, words };
         self.plan.extend([write(0x9A, 0x20), write(0x9C, switches), window, write(0x18, 0x48), write(0x0A, 0x80)]);
@@ -351,6 +370,17 @@ impl Writer {
             self.plan.push_back(Call::Srst);
         }
         Call::Open { ring }
+    }
+
+    /// A packet with a good block there and blocks asked for: its end starts their transfer.
+    fn start_by_packet(&mut self) -> Call {
+        let (switches, count) = (self.random.pick(&[0xC0, 0xC8, 0xD1]), self.random.between(1, 3));
+        let fill = self.random.between(0, 255);
+        self.plan.extend([write(0x9A, 0x20), write(0x9C, 0xE0), Call::Window { offset: 12, words: 3 }]);
+        self.plan.extend([write(0x0A, 0x80), Call::Sector { address: Address::new(0, 2, 0), fill }]);
+        self.plan.extend([write(0x18, switches), write(0x9F, count), Call::Command { code: 0xA0 }]);
+        self.plan.extend([0x28, 0, 0x96, 0, 1, 0].map(|word| Call::Send { word }));
+        Call::Reset
     }
 
     /// Taking ACMEN low must take TTC along.
@@ -380,7 +410,7 @@ impl Writer {
 
     fn show_oldest_block(&mut self) -> Call {
         self.plan.extend([write(0x9C, 0x60), write(0x18, 0x40), write(0x12, 0)]);
-        if self.random.one_in(40) {
+        if self.random.one_in(16) {
             self.serve_whole_block();
         } else {
             self.sweep();
@@ -478,7 +508,7 @@ impl Writer {
 /// Calls without regard to what is possible, and lines that are none.
 impl Writer {
     fn blind_call(&mut self, chip: &Chip) -> Call {
-        match self.random.below(24) {
+        match self.random.below(26) {
             0..=4 => Call::Read { reg: self.any_register() },
             5..=12 => write(self.any_register(), self.any_value()),
             13 => Call::Block { number: self.random.between(0, 30) },
@@ -494,6 +524,7 @@ impl Writer {
             20 => Call::Send { word: self.random.between(0, 65535) },
             21 => Call::Status,
             22 => self.random.pick(&[Call::Srst, Call::Reset, Call::Look, Call::Status]),
+            23..=24 => self.any_scratch(),
             _ => self.sector(chip),
         }
     }
@@ -517,7 +548,7 @@ impl Writer {
 
     fn malformed_line(&mut self) -> Vec<u8> {
         let good = self.opening().line();
-        match self.random.below(16) {
+        match self.random.below(17) {
             0 => b"".to_vec(),
             1 => b"call=sector min=0 sec=2 frame=0".to_vec(),
             2 => b"call=write value=1 reg=18".to_vec(),
@@ -533,6 +564,7 @@ impl Writer {
             12 => format!("{good} ring=3").into_bytes(),
             13 => with_leading_zeros(good, MAX_LINE_BYTES + 1),
             14 => with_leading_zeros(good, 300),
+            15 => self.random.pick(&MALFORMED_SCRATCHES).to_vec(),
             _ => self.spoiled(good),
         }
     }

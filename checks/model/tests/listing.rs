@@ -1,19 +1,19 @@
-//! The listing and the bench cases of paper 01.
+//! The listing and the bench cases of paper 01, the listing with `why` as paper 02 has it.
 
 use model::Bench;
 
 const LISTING: &str = "
-call=open ring=3                            | n=1 answer=0 out=0 tcc=0 bufc=0 irq=0
-call=write reg=154 value=32                 | n=2 answer=0 out=0 tcc=0 bufc=0 irq=0
-call=write reg=156 value=96                 | n=3 answer=0 out=0 tcc=0 bufc=0 irq=0
-call=write reg=10 value=128                 | n=4 answer=0 out=0 tcc=0 bufc=0 irq=0
-call=sector min=0 sec=2 frame=0 fill=65     | n=5 answer=0 out=0 tcc=1 bufc=1 irq=0
-call=sector min=0 sec=2 frame=5 fill=66     | n=6 answer=0 out=1 tcc=1 bufc=2 irq=0
-call=sector min=0 sec=2 frame=1 fill=67     | n=7 answer=8 out=0 tcc=1 bufc=2 irq=0
-call=write reg=10 value=0                   | n=8 answer=0 out=0 tcc=1 bufc=1 irq=0
-call=write reg=10 value=128                 | n=9 answer=0 out=0 tcc=1 bufc=1 irq=0
-call=sector min=0 sec=2 frame=1 fill=67     | n=10 answer=0 out=0 tcc=2 bufc=2 irq=0
-call=sector min=0 sec=2 frame=2 fill=68     | n=11 answer=9 out=0 tcc=2 bufc=2 irq=0
+call=open ring=3                            | n=1 answer=0 out=0 tcc=0 bufc=0 why=0 irq=0
+call=write reg=154 value=32                 | n=2 answer=0 out=0 tcc=0 bufc=0 why=0 irq=0
+call=write reg=156 value=96                 | n=3 answer=0 out=0 tcc=0 bufc=0 why=0 irq=0
+call=write reg=10 value=128                 | n=4 answer=0 out=0 tcc=0 bufc=0 why=0 irq=0
+call=sector min=0 sec=2 frame=0 fill=65     | n=5 answer=0 out=0 tcc=1 bufc=1 why=0 irq=0
+call=sector min=0 sec=2 frame=5 fill=66     | n=6 answer=0 out=1 tcc=1 bufc=2 why=1 irq=0
+call=sector min=0 sec=2 frame=1 fill=67     | n=7 answer=8 out=0 tcc=1 bufc=2 why=1 irq=0
+call=write reg=10 value=0                   | n=8 answer=0 out=0 tcc=1 bufc=1 why=1 irq=0
+call=write reg=10 value=128                 | n=9 answer=0 out=0 tcc=1 bufc=1 why=1 irq=0
+call=sector min=0 sec=2 frame=1 fill=67     | n=10 answer=0 out=0 tcc=2 bufc=2 why=0 irq=0
+call=sector min=0 sec=2 frame=2 fill=68     | n=11 answer=9 out=0 tcc=2 bufc=2 why=0 irq=0
 ";
 
 /// Answer and result of a line.
@@ -146,10 +146,10 @@ fn p10_expected_address_carries() {
 #[test]
 fn before_an_open_all_else_is_5_and_malformed_is_2() {
     let mut bench = Bench::new();
-    assert_eq!(bench.line(b"call=read reg=999"), "n=1 answer=5 out=0 tcc=0 bufc=0 irq=0");
-    assert_eq!(bench.line(b"call=sector min=0 sec=99 frame=0 fill=999"), "n=2 answer=5 out=0 tcc=0 bufc=0 irq=0");
-    assert_eq!(bench.line(b"call=read reg=65536"), "n=3 answer=2 out=0 tcc=0 bufc=0 irq=0");
-    assert_eq!(bench.line(b"call=look"), "n=4 answer=5 out=0 tcc=0 bufc=0 irq=0");
+    assert_eq!(bench.line(b"call=read reg=999"), "n=1 answer=5 out=0 tcc=0 bufc=0 why=0 irq=0");
+    assert_eq!(bench.line(b"call=sector min=0 sec=99 frame=0 fill=999"), "n=2 answer=5 out=0 tcc=0 bufc=0 why=0 irq=0");
+    assert_eq!(bench.line(b"call=read reg=65536"), "n=3 answer=2 out=0 tcc=0 bufc=0 why=0 irq=0");
+    assert_eq!(bench.line(b"call=look"), "n=4 answer=5 out=0 tcc=0 bufc=0 why=0 irq=0");
 }
 
 #[test]

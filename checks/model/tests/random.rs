@@ -1,7 +1,8 @@
 //! Random calls on chips, with what must hold after each of them.
 
-use ecma130::SECTOR_BYTES;
-use model::{run_on, sealed, Answer, Book, Call, Chip, Random, Refusal, Writer, BLOCK_BYTES};
+use ecma130::{edc_bitwise, scramble, EDC_START, SECTOR_BYTES};
+use model::{run_on, sealed, Answer, Book, Call, Chip, Random, Refusal, Scratch, Writer, BLOCK_BYTES};
+use std::collections::BTreeMap;
 
 struct Machine {
     chip: Chip,
@@ -38,6 +39,7 @@ impl Machine {
     fn assert_ring_is_the_row(&self) {
         assert_eq!(self.book.row.len(), self.chip.tcc);
         assert_eq!(self.book.expected, self.chip.expected);
+        assert_eq!(self.book.facts, self.chip.facts);
         for (place, sector) in self.book.row.iter().enumerate() {
             let block = (self.chip.t + place) % self.chip.blocks;
             assert!(self.ring[block * BLOCK_BYTES..][..SECTOR_BYTES] == sector[..]);
@@ -66,40 +68,88 @@ fn assert_invariants(chip: &Chip) {
     }
 }
 
-/// The sector that a call names, one in ten damaged in a bit that counts.
-fn sector_of(call: Call, random: &mut Random) -> Option<Vec<u8>> {
-    let Call::Sector { address, fill } = call else {
-        return Some(Vec::new());
-    };
-    let mut sector = sealed(address, fill).ok()?;
-    if random.one_in(10) {
-        let place = random.pick(&[0, 11, 12, 14, 15, 16, 2063, 2064, 2067]);
-        sector[place] ^= 1 << random.below(8);
+/// The disc: its scratches, and a sector now and then that no scratch makes.
+struct Disc {
+    random: Random,
+    scratch: Scratch,
+}
+
+impl Disc {
+    fn new(seed: u64) -> Disc {
+        Disc { random: Random::new(seed), scratch: Scratch::NONE }
     }
-    Some(sector)
+
+    /// The call to a chip and the sector that it is lent. Nothing where the line is not one to a chip, or is refused before.
+    fn call(&mut self, call: Call) -> Option<(Call, Vec<u8>)> {
+        match call {
+            Call::Scratch { from, count } => {
+                self.scratch = Scratch::new(from, count).unwrap_or(self.scratch);
+                None
+            }
+            Call::Sector { address, fill } => Some((call, self.arriving(sealed(address, fill).ok()?))),
+            _ => Some((call, Vec::new())),
+        }
+    }
+
+    fn arriving(&mut self, sector: Vec<u8>) -> Vec<u8> {
+        match self.random.below(10) {
+            0 => self.damaged(sector),
+            1 => self.crafted(sector),
+            _ => self.scratch.over(sector),
+        }
+    }
+
+    /// In a bit that counts.
+    fn damaged(&mut self, mut sector: Vec<u8>) -> Vec<u8> {
+        let place = self.random.pick(&[0, 11, 12, 14, 15, 16, 2063, 2064, 2067]);
+        sector[place] ^= 1 << self.random.below(8);
+        sector
+    }
+
+    /// Any of sync, mode and address spoiled under a code that fits, and the code itself: all sixteen can come.
+    fn crafted(&mut self, mut sector: Vec<u8>) -> Vec<u8> {
+        scramble(&mut sector[12..]);
+        let spoiled = self.random.below(16);
+        sector[5] ^= (spoiled & 1) as u8;
+        sector[15] ^= (spoiled >> 1 & 1) as u8;
+        sector[13] ^= (spoiled >> 2 & 1) as u8;
+        let code = edc_bitwise(&sector[..EDC_START]) ^ (spoiled >> 3 & 1) as u32;
+        sector[EDC_START..EDC_START + 4].copy_from_slice(&code.to_le_bytes());
+        scramble(&mut sector[12..]);
+        sector
+    }
+
+    fn has_arrived(&mut self, call: Call, answer: Answer) {
+        if matches!(call, Call::Sector { .. }) && answer.is_ok() {
+            self.scratch = Scratch::NONE;
+        }
+    }
 }
 
 #[test]
 fn invariants_and_the_book_hold_after_every_call() {
-    let (mut random, mut writer) = (Random::new(1), Writer::new(2));
+    let (mut disc, mut writer) = (Disc::new(1), Writer::new(2));
     let mut machine = Machine::open(3);
-    let mut damaged = 0;
+    let mut stored = BTreeMap::new();
     for _ in 0..200_000 {
         let call = writer.next_call(Some(&machine.chip));
         if let Call::Open { ring } = call {
             if let Ok(chip) = Chip::open(ring) {
                 machine = Machine::open(chip.blocks as u16);
+                disc.scratch = Scratch::NONE;
             }
             continue;
         }
-        let Some(sector) = sector_of(call, &mut random) else {
+        let Some((call, sector)) = disc.call(call) else {
             continue;
         };
         let answer = machine.run(call, &sector);
-        let is_sector = matches!(call, Call::Sector { .. });
-        damaged += (is_sector && answer.is_ok_and(|out| out & 0x40 != 0)) as u32;
+        disc.has_arrived(call, answer);
+        if matches!(call, Call::Sector { .. }) && answer.is_ok() {
+            *stored.entry(machine.chip.facts.why()).or_insert(0) += 1;
+        }
     }
-    assert!(damaged > 100, "only {damaged} damaged sectors were taken");
+    assert!((0..16).all(|why| stored.get(&why).is_some_and(|&count| count > 20)), "by why: {stored:?}");
 }
 
 /// True where demand 3 stops comparing: the smaller ring lacks room, or
@@ -115,15 +165,14 @@ fn comparing_ends(call: Call, answer: Answer, smaller: &Chip) -> bool {
 
 #[test]
 fn two_rings_give_the_same_answers() {
-    let (mut random, mut writer) = (Random::new(3), Writer::new(4));
-    let (mut compared, mut words) = (0, 0);
+    let (mut random, mut disc, mut writer) = (Random::new(3), Disc::new(5), Writer::new(4));
+    let (mut compared, mut words, mut bad) = (0, 0, 0);
     for _ in 0..2_000 {
         let small = random.between(3, 24);
         let mut smaller = Machine::open(small);
         let mut larger = Machine::open(random.between(small, 25));
         for _ in 0..400 {
-            let call = writer.next_call(Some(&smaller.chip));
-            let Some(sector) = sector_of(call, &mut random) else {
+            let Some((call, sector)) = disc.call(writer.next_call(Some(&smaller.chip))) else {
                 continue;
             };
             if matches!(call, Call::Open { .. }) {
@@ -134,14 +183,17 @@ fn two_rings_give_the_same_answers() {
                 break;
             }
             let other = larger.run(call, &sector);
+            disc.has_arrived(call, answer);
             let block_number = matches!(call, Call::Read { reg: 0x24 | 0x3A });
             assert!(block_number || answer == other, "{call:?}: {answer:?} and {other:?}");
             assert!(smaller.chip.look(&smaller.ring) == larger.chip.look(&larger.ring));
+            assert_eq!(smaller.chip.facts, larger.chip.facts, "{call:?}");
             compared += 1;
+            bad += !smaller.chip.facts.is_good() as u32;
             words += (matches!(call, Call::Word) && answer.is_ok()) as u32;
         }
     }
-    assert!(compared > 50_000 && words > 5_000, "{compared} calls, {words} words");
+    assert!(compared > 50_000 && words > 5_000 && bad > 5_000, "{compared} calls, {words} words, {bad} of bad facts");
 }
 
 #[test]

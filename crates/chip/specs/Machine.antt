@@ -2,6 +2,7 @@
 -- Assumes nothing.
 use Prim.Native.Nat.{ℕ}
 use mathlib.Core.List.{List}
+use Rattle.outcomes.specs.Book.{facts-of}
 use Rattle.outcomes.specs.Machine.{Call, plain, sector, look, word, Answer, replied, handed, refused, seen, Machine}
 use Rattle.chip.specs.Chip.{opened}
 use Rattle.chip.specs.Calls.{called, sector-told, sector-ring, looked, word-told, word-number, word-value}
@@ -43,5 +44,5 @@ the-chip =
       opened = λ n x. over (opened n .chip) x;
       answer = chip-answer;
       step = chip-step;
-      facts = λ s. tt;
+      facts = λ s. facts-of (s .chip .controller);
     }

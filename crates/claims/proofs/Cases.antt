@@ -11,7 +11,7 @@ use Rattle.laws.proofs.Choice.{if-false, right-false}
 use Rattle.calls.specs.declared.Call.the-variants.{Write, SetWindow}
 use Rattle.sector.specs.Address.{next}
 use Rattle.sector.specs.Receive.{received}
-use Rattle.sector.specs.Judge.{good}
+use Rattle.sector.specs.Judge.{good, staerr}
 use Rattle.sector.specs.declared.Judgement.{Judgement}
 use Rattle.reply.specs.Reply.{answer}
 use Rattle.controller.specs.Calls.{stepped}
@@ -114,7 +114,7 @@ settled-expected d = ap (λ (x : Controller). x .expected) (settled-same d)
 module _ (k : Controller) (j : Judgement) (fine : good j ≡ true) where
   counted-reply : concluded (counted k j) .reply ≡ answer 0
   unfolding counted concluded
-  counted-reply = simp (fine, no-bits (j .staerr) (j .hcei))
+  counted-reply = simp (fine, no-bits (staerr j) (j .address))
 
   counted-expected : concluded (counted k j) .controller .expected ≡ next (k .expected)
   unfolding counted concluded

@@ -630,5 +630,5 @@ demand1 = record {
   descrambling = λ s. opens s .lowest;
   unchanged = λ s. opens s .refusal;
   judging = λ s a. subst (Lowest (sealing-reasons s a)) (sym (judges s a .number-is)) (alone s a (whole s) (valid a) .lowest);
-  neither-bit = λ s a. judges s a .refusal;
+  no-fact = λ s a. judges s a .refusal;
 }

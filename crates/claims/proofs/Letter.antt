@@ -15,7 +15,7 @@ use Rattle.calls.specs.declared.Call.the-variants.{Write, Read, SetBlock, SetWi
 use Rattle.sector.specs.Receive.{received}
 use Rattle.controller.specs.Bits.{bit}
 use Rattle.controller.specs.Fields.{_▹_}
-use Rattle.outcomes.specs.Book.{Book, row≔, acmen≔, k≔, first-book, takes, joined, fed, feed}
+use Rattle.outcomes.specs.Book.{Book, row≔, acmen≔, k≔, first-book, takes, judged, joined, fed, feed}
 use Rattle.outcomes.specs.Machine.{Call, plain, sector, look, word, Answer, replied, handed, refused, seen, number, Machine}
 use Rattle.claims.specs.Demand3.{Right, Faithful, Demand3}
 use Rattle.claims.specs.Letter.{Sub, empty, keep, skip, noted, history, Traced, Accounted-run, Accounted, Ledger, first-ledger, waiting, entry, entered, enter, Rising, Waits, Numbered, Served, Gone, Ledger-run, noted-number, served, Climbing, Never-again}
@@ -205,7 +205,7 @@ module _ (low : ℕ) (b : Book) (g : Ledger) (h : List (List ℕ)) (t : Tracked 
   changed (plain Srst) = stay
   changed (sector s) = by (takes b s)
     where
-      by : (e : Bool) → Next low g ((if e then joined s b else b) .row) (if e then entry (received (b .expected) s .bytes) g else g)
+      by : (e : Bool) → Next low g ((if e then joined s (judged s b) else judged s b) .row) (if e then entry (received (b .expected) s .bytes) g else g)
           (if e then h ++ received (b .expected) s .bytes ∷ [] else h)
       by true = join (received (b .expected) s .bytes)
       by false = stay
@@ -288,7 +288,7 @@ module _ (M : Machine) where
       let n = number (M .answer c s) in
       let d = told low b g h t c (M .answer c s) (f .0) in
       let next = changes (d .up) b g h (d .tracked) c n in
-      let r = run cs (d .up) (M .step c s) (feed c n b) (enter c n b g) (history c n b h) (f .1) (next .tracked) in
+      let r = run cs (d .up) (M .step c s) (feed c n b) (enter c n b g) (history c n b h) (f .2) (next .tracked) in
       let gone : (i : ℕ) → Out i g → Gone i M (c ∷ cs) s b g = λ i o. (o .1, r .gone i (next .out i o)) in
       let unserved : (i : ℕ) → Out i g → Waits i (served M (c ∷ cs) s b g) → ⊥ =
       λ i o. d .kept-out i (o .1) (served M cs (M .step c s) (feed c n b) (enter c n b g)) (r .unserved i (next .out i o)) in

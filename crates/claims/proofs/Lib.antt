@@ -28,4 +28,5 @@ pub mod WrongWord
 pub mod Stages
 pub mod WrongAbort
 pub mod WrongRestart
+pub mod WrongFacts
 pub mod OfChip

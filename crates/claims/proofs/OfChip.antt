@@ -5,7 +5,7 @@ use Rattle.claims.specs.Cases.{CasesMet}
 use Rattle.claims.specs.Pins.{Pins, PinsMet}
 use Rattle.claims.specs.Letter.{Accounted, Never-again}
 use Rattle.claims.specs.Runs.{MetClaim}
-use Rattle.claims.specs.Wrong.{Shut-out, bad-restart, taking-abort, constant-word}
+use Rattle.claims.specs.Wrong.{Shut-out, bad-restart, taking-abort, constant-word, keeping-refused}
 use Rattle.claims.proofs.CasesMet as cases
 use Rattle.claims.proofs.Demand3.{row-demand3, demand3}
 use Rattle.claims.proofs.Letter.{accounted-by, never-again-by}
@@ -14,6 +14,7 @@ use Rattle.claims.proofs.Pins as table
 use Rattle.claims.proofs.PinsMet as numbers
 use Rattle.claims.proofs.Refines.{refined-sound, chip-simulates}
 use Rattle.claims.proofs.WrongAbort as abort
+use Rattle.claims.proofs.WrongFacts as facts
 use Rattle.claims.proofs.WrongRestart as restart
 use Rattle.claims.proofs.WrongWord as words
 
@@ -43,3 +44,6 @@ taking-abort-fails = abort.taking-abort-fails row-demand3
 
 pub constant-word-fails : (k : ℕ) → Shut-out (constant-word k)
 constant-word-fails k = words.constant-word-fails k chip-simulates row-demand3
+
+pub keeping-refused-fails : Shut-out keeping-refused
+keeping-refused-fails = facts.keeping-refused-fails

@@ -57,7 +57,7 @@ module _ (M N : Machine) where
       let ns : map number (answers M cs (M .step c s)) ≡ map number (answers N cs (N .step c t)) = cc in
       same-word c b (M .answer c s) (N .answer c t) _ _ (f .0) (g .0) n
       (one-book cs (M .step c s) (N .step c t) (feed c (number (N .answer c t)) b)
-      (subst (λ (k : ℕ). Faithful M cs (M .step c s) (feed c k b)) n (f .1)) (g .1) ns)
+      (subst (λ (k : ℕ). Faithful M cs (M .step c s) (feed c k b)) n (f .2)) (g .2) ns)
 
   -- N has demand 3 and gives other words than M
   pub shut-out :

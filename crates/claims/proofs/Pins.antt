@@ -1,5 +1,5 @@
 -- The table Pins holds. Assumes nothing.
-use mathlib.Core.Path.{refl}
+use mathlib.Core.Path.{refl, _∙_}
 use native.Mathlib.Omega.{arith}
 use Rattle.controller.specs.Fields.{_▹_, tcc≔, bufc≔, ttc≔, expected≔, buflim≔, mbc≔, received≔}
 use Rattle.controller.specs.State.{initial}
@@ -13,7 +13,8 @@ use Rattle.claims.specs.Pins.{chip, five, with-window, with-atlim, runni
 use Rattle.claims.specs.Refinement.{Simulation}
 use Rattle.claims.proofs.MetRuns.{by-chip}
 use Rattle.claims.proofs.PinsCalls.{twenty, forty, thirty-one, look-block, lent-3, lent-255, outside, inside}
-use Rattle.claims.proofs.PinsRuns.{wrong-code, look-headers}
+use Rattle.claims.proofs.PinsRuns.{wrong-code, why-kept, look-headers}
+use Rattle.claims.proofs.Runs.{same-answers, telling-simulates}
 
 module _ (S : Simulation the-chip the-row) where
   pub pins : Pins
@@ -24,6 +25,8 @@ module _ (S : Simulation the-chip the-row) where
         forty = forty;
         thirty-one = thirty-one;
         wrong-code = λ u k v h. by-chip S (omega arith) (omega arith) refl (wrong-code u k v h);
+        why-kept = λ u k v h.
+            record { given = λ x size. same-answers (telling-simulates S) _ refl _ _ (S .opened 3 (omega arith) (omega arith) x size) ∙ why-kept u k v h .given x size };
         look-headers = λ u size. by-chip S (omega arith) (omega arith) refl (look-headers u size);
         look-block = look-block;
         lent-3 = lent-3;

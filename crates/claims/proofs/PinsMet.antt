@@ -10,6 +10,7 @@ use lib.ListN.{length, replicate, length-replicate}
 use borrow.Author.Tests.{ne-eqb, lt-ltb}
 use Rattle.laws.proofs.Bytes.{bytes-replicate}
 use Rattle.sector.specs.Address.{next}
+use Rattle.sector.specs.Judge.{no-facts}
 use Rattle.sector.specs.Sector.{body, framed}
 use Rattle.controller.specs.Calls.{stepped}
 use Rattle.controller.specs.Decoder.{admission, counted}
@@ -51,7 +52,7 @@ module _ (u : List ℕ) (size : length u ≡ 2352) where
       → Ran the-row (disc u k ∷ []) (holding n k row) (ok ∷ []) (holding n (suc k) (row ++ framed (frame k) u ∷ []))
   unfolding concluded settled admission counted next
   one-more n k row room low =
-      let d = decoded u size k (holding n k row) (record { staerr = false; hcei = false }) (own u size k) in
+      let d = decoded u size k (holding n k row) no-facts (own u size k) in
       let below : ltb k 74 ≡ true = lt-ltb k 74 low in
       let free : eqb (k + 1) n ≡ false = ne-eqb (k + 1) n (λ (e : k + 1 ≡ n). omega arith) in
       let more : Ran the-row (disc u k ∷ []) (holding n k row) (ok ∷ []) (holding n (k + 1) (row ++ framed (frame k) u ∷ [])) =

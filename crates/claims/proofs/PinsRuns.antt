@@ -1,40 +1,41 @@
 -- The runs of Pins: of the row machine, and so of the chip that simulates it. Assumes nothing.
 use Prim.Native.Nat.{ℕ, _+_, _-_, _<_, _≤_}
-use mathlib.Core.Path.{_≡_, refl, sym, ap, ap₂, _∙_}
-use mathlib.Core.Bool.{Bool, true, false, not}
+use mathlib.Core.Path.{_≡_, refl, sym, ap, _∙_}
+use mathlib.Core.Bool.{true, false}
 use mathlib.Core.List.{List, [], _∷_, _++_}
 use native.Mathlib.Omega.{arith}
-use lib.ListN.{length, take, drop, getD, set, length-set}
-use lib.Seq.{take-set-le, drop-set-add}
+use lib.ListN.{length, set, length-set}
+use borrow.Author.Tests.{le-ltb, lt-ltb, le-leb, ne-eqb}
 use Rattle.laws.specs.Bytes.{Bytes}
-use Rattle.laws.proofs.Same.{same-of}
 use Rattle.scramble.specs.Scramble.{scrambled}
 use Rattle.scramble.proofs.Scrambled.{scrambled-twice, length-scrambled}
-use Rattle.sector.specs.Address.{next, address-bytes}
+use Rattle.sector.specs.Address.{next}
 use Rattle.sector.specs.Calls.{judge-answer}
-use Rattle.sector.specs.Claims.{verdict}
-use Rattle.sector.specs.Judge.{judgement, staerr, address-holds}
+use Rattle.sector.specs.Claims.{verdict, elsewhere, damaged as code-damaged}
+use Rattle.sector.specs.Judge.{judgement, no-facts}
 use Rattle.sector.specs.Receive.{received}
 use Rattle.sector.specs.Sector.{body, framed}
 use Rattle.sector.specs.declared.Judgement.{Judgement}
-use Rattle.sector.proofs.Answers.{judge-done, judged-staerr}
+use Rattle.sector.proofs.Answers.{judge-done, judged-facts}
 use Rattle.sector.proofs.Claims.{damage-holds}
-use Rattle.sector.proofs.Frames.{length-framed, header-framed, bytes-framed}
+use Rattle.sector.proofs.Frames.{length-framed, bytes-framed}
 use Rattle.sector.proofs.Sealed.{judged-own}
+use Rattle.calls.specs.declared.Call.the-variants.{Reset}
 use Rattle.controller.specs.Calls.{stepped}
 use Rattle.controller.specs.Decoder.{admission, counted}
+use Rattle.controller.specs.Fields.{_▹_, bufc≔, held≔, judgement≔}
 use Rattle.controller.specs.Host.{host-word, host-command, ended, data-ended}
 use Rattle.controller.specs.Named as named
 use Rattle.controller.specs.Read as reading
 use Rattle.controller.specs.Transfer.{byte-count, start, settled, concluded}
 use Rattle.controller.specs.Write as registers
-use Rattle.outcomes.specs.Machine.{look, word, replied, handed, seen}
-use Rattle.outcomes.specs.Row.{row-answer, row-step, the-row}
-use Rattle.claims.specs.Pins.{GivenCode, damaged}
-use Rattle.claims.specs.Runs.{read, set-window, disc, set-up, transfer, ok, Gives}
-use Rattle.claims.proofs.Runs.{frame, calls, _then_, by-row, taken, decoded, filled, own, first, second}
+use Rattle.outcomes.specs.Machine.{plain, look, word, replied, handed, seen}
+use Rattle.outcomes.specs.Row.{Row, row-answer, row-step, the-row}
+use Rattle.claims.specs.Pins.{GivenCode, damaged, kept}
+use Rattle.claims.specs.Runs.{read, set-window, srst, disc, set-up, restart, transfer, ok, Gives, telling-why}
+use Rattle.claims.proofs.Runs.{frame, Ran, calls, _then_, telling, opened, by-row, taken, decoded, decoding, filled, own, not-expected, first, second}
 
--- the sector sealed at 00:02:01, with a byte behind its header changed, is received as such and judged STAERR alone
+-- the sector sealed at 00:02:01, with a byte behind its header changed, is received as such, and its EDC alone fails
 module _ (u : List ℕ) (k v : ℕ) (h : GivenCode u k v) where
   abbrev changed : List ℕ
   changed = set (framed (frame 1) u) k v
@@ -42,32 +43,23 @@ module _ (u : List ℕ) (k v : ℕ) (h : GivenCode u k v) where
   whole : length changed ≡ 2352
   whole = length-set (framed (frame 1) u) k v ∙ length-framed (frame 1) u (h .size)
 
-  header : take 3 (drop 12 changed) ≡ take 3 (drop 12 (framed (frame 1) u))
-  header =
-      let l = framed (frame 1) u in
-      let behind = h .behind in
-      let place : k ≡ 12 + (k - 12) = omega arith in
-      ap (λ (i : ℕ). take 3 (drop 12 (set l i v))) place ∙ ap (take 3) (drop-set-add 12 l (k - 12) v) ∙ take-set-le 3 (drop 12 l) (k - 12) v (omega arith)
-
-  addressed : address-holds (frame 1) changed ≡ true
-  unfolding address-holds
-  addressed = same-of (take 3 (drop 12 changed)) (address-bytes (frame 1)) (header ∙ header-framed (frame 1) u)
-
-  sealed-well : judge-answer (framed (frame 1) u) (frame 1) ≡ verdict false false
+  sealed-well : judge-answer (framed (frame 1) u) (frame 1) ≡ verdict no-facts
   sealed-well =
       sym (judge-done (framed (frame 1) u) (frame 1) (length-framed (frame 1) u (h .size)) refl)
       ∙ ap (λ (j : Judgement). record { number = 0; judgement = j }) (judged-own (frame 1) u (h .size))
 
-  wrong : staerr changed ≡ true
-  wrong =
-      sym (judged-staerr changed (frame 1) whole refl)
-      ∙ damage-holds (framed (frame 1) u) (frame 1) k v (bytes-framed (frame 1) u refl (h .bytes)) sealed-well (h .before) (h .byte) (h .other)
+  -- no other fact is of its place
+  edc-alone : code-damaged k ≡ record { sync = false; mode = false; edc = true; address = false }
+  edc-alone =
+      let behind = h .behind in
+      simp (le-ltb k 12 (omega arith), ne-eqb k 15 (λ z. omega arith), lt-ltb k 2068 (h .before), le-leb 12 k (omega arith), le-ltb k 15 (omega arith))
 
-  received-so : received (frame 1) (scrambled changed) ≡ record { bytes = changed; judgement = record { staerr = true; hcei = false } }
-  unfolding received judgement
+  received-so : received (frame 1) (scrambled changed) ≡ record { bytes = changed; judgement = record { sync = false; mode = false; edc = true; address = false } }
+  unfolding received
   received-so =
       ap (λ (l : List ℕ). record { bytes = l; judgement = judgement (frame 1) l }) (scrambled-twice changed whole)
-      ∙ ap₂ (λ (e a : Bool). record { bytes = changed; judgement = record { staerr = e; hcei = not a } }) wrong addressed
+      ∙ ap (λ (j : Judgement). record { bytes = changed; judgement = j })
+      (judged-facts changed (frame 1) (code-damaged k) (damage-holds (framed (frame 1) u) (frame 1) k v (bytes-framed (frame 1) u refl (h .bytes)) sealed-well (h .byte) (h .other)) ∙ edc-alone)
 
   pub wrong-code :
       Gives the-row 3
@@ -79,6 +71,57 @@ module _ (u : List ℕ) (k v : ℕ) (h : GivenCode u k v) where
       then taken (scrambled changed) changed (filled 1 (framed (frame 0) u ∷ [])) _ (length-scrambled changed whole) received-so
       then calls (read 0x80 ∷ read 0x9D ∷ read 0x9B ∷ []) _
       then decoded u (h .size) 1 _ _ (own u (h .size) 1))
+
+  -- the rows between: with a sector of another place stored, after the restart, with a good one, and with the changed one behind it
+  abbrev misplaced : Row
+  misplaced = record { controller = decoding 0 ▹ bufc≔ 1 ▹ judgement≔ elsewhere ▹ held≔ true; blocks = 3; row = [] }
+
+  abbrev restarted : Row
+  restarted = record { controller = decoding 0 ▹ judgement≔ elsewhere; blocks = 3; row = [] }
+
+  abbrev one-good : Row
+  one-good = filled 1 (framed (frame 0) u ∷ [])
+
+  abbrev one-bad : Row
+  one-bad = record {
+    controller = decoding 1 ▹ bufc≔ 2 ▹ judgement≔ (record { sync = false; mode = false; edc = true; address = false }) ▹ held≔ true;
+    blocks = 3;
+    row = framed (frame 0) u ∷ [];
+  }
+
+  bad : Ran the-row (disc u 5 ∷ []) (filled 0 []) (replied 0 1 ∷ []) misplaced
+  unfolding concluded settled admission counted
+  bad = decoded u (h .size) 5 (filled 0 []) _ (not-expected u (h .size))
+
+  barred : Ran the-row (disc u 0 ∷ []) misplaced (replied 8 0 ∷ []) misplaced
+  unfolding admission
+  barred = decoded u (h .size) 0 misplaced _ (own u (h .size) 0)
+
+  good : Ran the-row (disc u 0 ∷ []) restarted (ok ∷ []) one-good
+  unfolding concluded settled admission counted next
+  good = decoded u (h .size) 0 restarted _ (own u (h .size) 0)
+
+  coded : Ran the-row (damaged u 1 k v ∷ []) one-good (replied 0 0x40 ∷ []) one-bad
+  unfolding concluded settled admission counted
+  coded = taken (scrambled changed) changed one-good _ (length-scrambled changed whole) received-so
+
+  barred-too : Ran the-row (disc u 1 ∷ []) one-bad (replied 8 0 ∷ []) one-bad
+  unfolding admission
+  barred-too = decoded u (h .size) 1 one-bad _ (own u (h .size) 1)
+
+  pub why-kept :
+      Gives (telling-why the-row) 3
+      (set-up ++ disc u 5 ∷ disc u 0 ∷ read 0x80 ∷ srst ∷ restart ++ disc u 0 ∷ damaged u 1 k v ∷ disc u 1 ∷ plain Reset ∷ [])
+      (kept 0 ∷ kept 0 ∷ kept 0 ∷ kept 1 ∷ kept 1 ∷ kept 1 ∷ kept 1 ∷ kept 1 ∷ kept 1 ∷ kept 0 ∷ kept 2 ∷ kept 2 ∷ kept 0 ∷ [])
+  unfolding row-step stepped concluded settled reading.read registers.write registers.write-bicctl registers.write-acctl registers.write-ctrl0
+  why-kept = record {
+    given = λ x size.
+        (calls {M = telling-why the-row} set-up (opened 3)
+        then telling bad then telling barred
+        then calls {M = telling-why the-row} (read 0x80 ∷ srst ∷ restart) misplaced
+        then telling good then telling coded then telling barred-too
+        then calls {M = telling-why the-row} (plain Reset ∷ []) one-bad) .told;
+  }
 
 -- looks, and one behind a block that was taken
 pub look-headers : (u : List ℕ) → length u ≡ 2352

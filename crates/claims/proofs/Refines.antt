@@ -30,6 +30,7 @@ use Rattle.ring.specs.Place.{place-step, ring-facts}
 use Rattle.ring.specs.Represents.{Represents}
 use Rattle.ring.specs.declared.Place.{Place}
 use Rattle.ring.proofs.Represents.{represents-opened, represents-full}
+use Rattle.outcomes.specs.Book.{facts-of}
 use Rattle.outcomes.specs.Invariant.{moved}
 use Rattle.outcomes.specs.Machine.{Call, plain, sector, look, word, replied, handed, refused, seen, number}
 use Rattle.outcomes.specs.Row.{Row, Valid, plain-step, word-step, sector-number, sector-step, grown, left-by, answered, looked, row-answer, row-step, the-row}
@@ -333,6 +334,6 @@ chip-simulates = record {
   Related = Refines;
   opened = refines-opened;
   answer = λ c s r h. refined-answer s r h c;
-  facts = λ s r h. refl;
+  facts = λ s r h. ap facts-of (h .controller);
   step = λ c s r h. refined-step s r h c;
 }

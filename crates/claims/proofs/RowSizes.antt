@@ -22,7 +22,7 @@ use Rattle.controller.specs.declared.state.Controller.{Controller}
 use Rattle.controller.specs.declared.step.RingFacts.{RingFacts}
 use Rattle.controller.specs.declared.step.Step.{Step}
 use Rattle.reply.specs.declared.Reply.{Reply}
-use Rattle.outcomes.specs.Book.{limited}
+use Rattle.outcomes.specs.Book.{facts-of, limited}
 use Rattle.outcomes.specs.Invariant.{moved}
 use Rattle.outcomes.specs.Machine.{Call, plain, sector, look, word, replied, number}
 use Rattle.outcomes.specs.Row.{Row, Valid, row-facts, sector-number, sector-step, grown, answered, row-answer, row-step, the-row}
@@ -226,7 +226,7 @@ agree-call :
     ((masked c (row-answer c s) ≡ masked c (row-answer c t)) × (the-row .facts (row-step c s) ≡ the-row .facts (row-step c t))
     × Agree the-row cs (row-step c s) (row-step c t) (limited c (number (row-answer c s)) l))
 agree-call c cs s t l p rest true e = tt
-agree-call c cs s t l p rest false e = (ap (masked c) (pair-agreed s t l p c e .0), refl, rest (pair-step s t l p c e))
+agree-call c cs s t l p rest false e = (ap (masked c) (pair-agreed s t l p c e .0), ap facts-of (pair-agreed s t l p c e .1), rest (pair-step s t l p c e))
 
 pub agree : (cs : List Call) (s t : Row) (l : Bool) → Pair s t l → Agree the-row cs s t l
 agree [] s t l p = tt

@@ -1,4 +1,4 @@
--- The row machine hands over the words that the book predicts, over any list of calls. Assumes nothing.
+-- The row machine hands over the words that the book predicts and keeps its facts, over any list of calls. Assumes nothing.
 use mathlib.Core.Path.{_≡_, refl, sym, ap, subst, _∙_}
 use mathlib.Core.Bool.{true}
 use mathlib.Core.List.{List, [], _∷_}
@@ -36,9 +36,10 @@ right word s h =
     (λ e. eqb-false _ _ e)
 
 pub faithful : (cs : List Call) (s : Row) → Valid s → (b : Book) → shown s ≡ b → Faithful the-row cs s b
-faithful [] s h b e = tt
+faithful [] s h b e = ap (λ (x : Book). x .facts) e
 faithful (c ∷ cs) s h b e =
     let k = kept c s h in (
       subst (λ (x : Book). Right c (row-answer c s) x) e (right c s h),
+      ap (λ (x : Book). x .facts) e,
       faithful cs (row-step c s) (k .valid) (feed c (number (row-answer c s)) b) (k .book ∙ ap (feed c (number (row-answer c s))) e),
     )

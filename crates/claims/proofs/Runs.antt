@@ -4,19 +4,21 @@ use Prim.Native.Nat.{ℕ, _+_}
 use mathlib.Core.Path.{_≡_, refl, ap, ap₂, _∙_}
 use mathlib.Core.Bool.{Bool, true, false, _&&_, not}
 use mathlib.Core.List.{List, [], _∷_, _++_}
+use native.Mathlib.Omega.{arith}
 use lib.Dec.{eqb}
 use lib.ListN.{length}
 use borrow.Author.Tests.{eq-eqb, not-true}
 use Rattle.laws.specs.Choice.{if_then_else_}
 use Rattle.laws.proofs.Choice.{left-true, right-true}
-use Rattle.sector.specs.Judge.{good, judgement}
+use Rattle.sector.specs.Claims.{elsewhere}
+use Rattle.sector.specs.Judge.{good, judgement, no-facts, why}
 use Rattle.sector.specs.Receive.{received}
 use Rattle.sector.specs.Sector.{framed, sealed}
 use Rattle.sector.specs.declared.Address.{Address}
 use Rattle.sector.specs.declared.Judgement.{Judgement}
 use Rattle.sector.specs.Address.{next}
 use Rattle.sector.proofs.Received.{received-sealed}
-use Rattle.sector.proofs.Sealed.{length-sealed, judged-own}
+use Rattle.sector.proofs.Sealed.{length-sealed, judged-own, judged-other}
 use Rattle.controller.specs.Decoder.{admission, counted}
 use Rattle.controller.specs.Calls.{stepped}
 use Rattle.controller.specs.Fields.{_▹_, blimen≔, acctl≔, decen≔, tcc≔, bufc≔, expected≔}
@@ -24,11 +26,11 @@ use Rattle.controller.specs.State.{initial}
 use Rattle.controller.specs.Transfer.{settled, concluded}
 use Rattle.controller.specs.Write as registers
 use Rattle.controller.specs.declared.state.Controller.{Controller}
-use Rattle.outcomes.specs.Machine.{Call, sector, Answer, replied, Machine, after, answers}
+use Rattle.outcomes.specs.Machine.{Call, sector, Answer, replied, Facts, Machine, after, answers}
 use Rattle.outcomes.specs.Row.{Row, answered, row-answer, row-step, the-row}
-use Rattle.claims.specs.Demand3.{hidden}
+use Rattle.claims.specs.Demand3.{hidden, masked}
 use Rattle.claims.specs.Refinement.{Simulation}
-use Rattle.claims.specs.Runs.{disc, set-up, ok, Gives}
+use Rattle.claims.specs.Runs.{disc, set-up, ok, Gives, telling-why}
 
 -- Runs
 
@@ -57,6 +59,11 @@ _then_ {M} {cs} {ds} {s} {rs = rs} a b =
           ∙ ap (λ (x : List Answer). rs ++ x) (b .told);
       left = left-on M cs ds s ∙ ap (after M ds) (a .left) ∙ b .left;
     }
+
+-- a call of a machine that tells why
+pub telling : {M : Machine} {c : Call} {s t : M .State} {rs : List Answer} → Ran M (c ∷ []) s rs t
+    → Ran (telling-why M) (c ∷ []) s (replied 0 (why (M .facts t .judgement)) ∷ []) t
+telling {M} r = record { told = ap (λ (x : M .State). replied 0 (why (M .facts x .judgement)) ∷ []) (r .left); left = r .left }
 
 -- The row machine
 
@@ -108,8 +115,13 @@ abbrev pub filled : ℕ → List (List ℕ) → Row
 filled k row = record { controller = decoding k; blocks = 3; row = row }
 
 module _ (u : List ℕ) (size : length u ≡ 2352) where
-  pub own : (f : ℕ) → judgement (frame f) (framed (frame f) u) ≡ record { staerr = false; hcei = false }
+  pub own : (f : ℕ) → judgement (frame f) (framed (frame f) u) ≡ no-facts
   own f = judged-own (frame f) u size
+
+  -- frame 5 where frame 0 is expected
+  pub not-expected : judgement (frame 0) (framed (frame 5) u) ≡ elsewhere
+  not-expected =
+      judged-other (frame 5) u size (frame 0) refl refl (λ e. let z : _≡_ {A = ℕ} 0 5 = ap (λ (a : Address). a .frame) e in omega arith)
 
   pub first : Ran the-row (set-up ++ disc u 0 ∷ []) (opened 3) (ok ∷ ok ∷ ok ∷ ok ∷ []) (filled 1 (framed (frame 0) u ∷ []))
   unfolding row-answer row-step stepped concluded settled admission counted next registers.write registers.write-bicctl registers.write-acctl registers.write-ctrl0
@@ -118,6 +130,16 @@ module _ (u : List ℕ) (size : length u ≡ 2352) where
   pub second : Ran the-row (disc u 1 ∷ []) (filled 1 (framed (frame 0) u ∷ [])) (ok ∷ []) (filled 2 (framed (frame 0) u ∷ framed (frame 1) u ∷ []))
   unfolding concluded settled admission counted next
   second = decoded u size 1 (filled 1 (framed (frame 0) u ∷ [])) _ (own 1)
+
+-- machines that tell why simulate each other where they do
+abbrev pub telling-simulates : {M R : Machine} → Simulation M R → Simulation (telling-why M) (telling-why R)
+telling-simulates S = record {
+  Related = S .Related;
+  opened = S .opened;
+  answer = λ c s r h. ap (λ (k : Facts). masked c (replied 0 (why (k .judgement)))) (S .facts _ _ (S .step c s r h));
+  facts = S .facts;
+  step = S .step;
+}
 
 -- Where no call is hidden, a simulation gives all answers
 

@@ -16,13 +16,13 @@ use Rattle.laws.proofs.Choice.{if-case, right-false, not-of-false}
 use Rattle.laws.proofs.Tests.{or-false}
 use Rattle.calls.specs.declared.Call.the-variants.{Write, Read, SetBlock, SetWindow, SetExpected, PacketByte, Reset, Command, PacketWord, Status, Srst}
 use Rattle.reply.specs.declared.Reply.{Reply}
-use Rattle.sector.specs.Judge.{sync-holds, mode-holds, edc-holds, address-holds, staerr, judgement, good}
+use Rattle.sector.specs.Judge.{sync-holds, mode-holds, edc-holds, address-holds, judgement, good}
 use Rattle.sector.specs.Receive.{received}
 use Rattle.sector.specs.declared.Address.{Address}
 use Rattle.controller.specs.Bits.{bit}
 use Rattle.controller.specs.Fields.{_▹_}
 use Rattle.controller.specs.Host.{host-word}
-use Rattle.outcomes.specs.Book.{Book, row≔, acmen≔, first-book, takes, joined, fed, feed}
+use Rattle.outcomes.specs.Book.{Book, row≔, acmen≔, book-of, first-book, takes, judged, joined, fed, feed}
 use Rattle.outcomes.specs.Machine.{Call, plain, sector, look, word, Answer, replied, handed, refused, seen, number, Machine, after}
 use Rattle.outcomes.specs.Row.{Row, Valid, shown, word-step, row-answer}
 use Rattle.outcomes.proofs.Calls.{word-running}
@@ -86,7 +86,7 @@ more w came x r = record { arrival = r .arrival; among = among-more (r .arrival)
 
 -- a good sector was checked
 
-neither : (s m e a : Bool) → not (not (s && (m && e)) || not a) ≡ true → (s ≡ true) × (m ≡ true) × (e ≡ true) × (a ≡ true)
+neither : (s m e a : Bool) → not ((not s || (not m || not e)) || not a) ≡ true → (s ≡ true) × (m ≡ true) × (e ≡ true) × (a ≡ true)
 neither true true true true h = (refl, refl, refl, refl)
 neither true true true false h = absurd (false≢true h)
 neither true true false a h = absurd (false≢true h)
@@ -94,7 +94,7 @@ neither true false e a h = absurd (false≢true h)
 neither false m e a h = absurd (false≢true h)
 
 checked : (a : Address) (s : List ℕ) → good (received a s .judgement) ≡ true → Checked a (received a s .bytes)
-unfolding received judgement staerr
+unfolding received judgement
 checked a s h =
     let x = received a s .bytes in
     let b = neither (sync-holds x) (mode-holds x) (edc-holds x) (address-holds a x) h in
@@ -125,7 +125,7 @@ module _ (b : Book) (came : List Arrival) (e : Good-row came b) where
   good-sector s size =
       let w : Arrival = record { expected = b .expected; lent = s } in
       let old = every-map (Read-and-checked came) (Read-and-checked (came ++ w ∷ [])) (more w came) (b .row) e in
-      if-case (Good-row (came ++ w ∷ [])) (takes b s) (joined s b) b
+      if-case (Good-row (came ++ w ∷ [])) (takes b s) (joined s (judged s b)) (judged s b)
       (λ t.
       every-join (Read-and-checked (came ++ w ∷ [])) (b .row) (received (b .expected) s .bytes) old
       (record { arrival = w; among = among-last w came; whole = size; bytes = refl; checked = checked (b .expected) s t }))
@@ -236,7 +236,7 @@ module _ (s : State) (b : Book) (k : Counted s b) where
       → (shown ≡ []) ⊎ ((0 < tcc s) × ((o m : ℕ) × (o + m ≤ 2352) × (shown ≡ take m (drop o (block-at s 0)))))
   looks-of shown e =
       let c = s .chip .controller in
-      let is : shown ≡ window-of (record { row = b .row; expected = c .expected; offset = c .window .offset; words = c .window .words; acmen = c .acctl .acmen; k = c .transfer .position }) =
+      let is : shown ≡ window-of (book-of c (b .row)) =
       ap bytes-of (sym e ∙ refined-answer s R (k .refines) look ∙ look-shows R v) in
       subst
       (λ (z : List ℕ). (z ≡ []) ⊎ ((0 < tcc s) × ((o m : ℕ) × (o + m ≤ 2352) × (z ≡ take m (drop o (block-at s 0)))))) (sym is)

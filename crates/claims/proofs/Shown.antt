@@ -18,6 +18,7 @@ use Rattle.sector.specs.declared.Address.{Address}
 use Rattle.sector.specs.Judge.{good, tarsta-byte}
 use Rattle.sector.specs.Receive.{received}
 use Rattle.sector.specs.declared.Judgement.{Judgement}
+use Rattle.sector.proofs.Claims.{facts-hold}
 use Rattle.controller.specs.Bits.{bit, only, differs}
 use Rattle.controller.specs.Calls.{stepped}
 use Rattle.controller.specs.Decoder.{counted}
@@ -277,16 +278,8 @@ concluded-number s = ap (λ (r : Reply). r .number) (concluded-reply s)
 -- held of the row machine goes by its calls, reply numbers and results
 
 -- a sector's result is 0 where it is good
-good-result : (e h : Bool) → not (e || h) ≡ true → eqb (weight e 0x40 + weight h 0x01) 0 ≡ true
-good-result false false g = refl
-good-result false true g = absurd (false≢true g)
-good-result true h g = absurd (false≢true g)
-
-bad-result : (e h : Bool) → not (e || h) ≡ false → eqb (weight e 0x40 + weight h 0x01) 0 ≡ false
-bad-result false false g = absurd (false≢true (sym g))
-bad-result false true g = refl
-bad-result true false g = refl
-bad-result true true g = refl
+good-result : (j : Judgement) (b : Bool) → good j ≡ b → eqb (tarsta-byte j) 0 ≡ b
+good-result j b e = sym (facts-hold .tarsta-good j) ∙ e
 
 counted-held : (c : Controller) (j : Judgement)
     → (counted c j .reply .number ≡ 0) × (counted c j .controller .counts .held ≡ (if eqb (counted c j .reply .result) 0 then c .counts .held else true))
@@ -295,8 +288,8 @@ counted-held c j =
     if-case
     (λ (s : Step). (s .reply .number ≡ 0) × (s .controller .counts .held ≡ (if eqb (s .reply .result) 0 then c .counts .held else true)))
     (good j) _ _
-    (λ g. (refl, sym (if-true (eqb (tarsta-byte j) 0) (c .counts .held) true (good-result (j .staerr) (j .hcei) g))))
-    (λ g. (refl, sym (if-false (eqb (tarsta-byte j) 0) (c .counts .held) true (bad-result (j .staerr) (j .hcei) g))))
+    (λ g. (refl, sym (if-true (eqb (tarsta-byte j) 0) (c .counts .held) true (good-result j true g))))
+    (λ g. (refl, sym (if-false (eqb (tarsta-byte j) 0) (c .counts .held) true (good-result j false g))))
 
 sector-held : (x : List ℕ) (s : Row)
     → row-step (sector x) s .controller .counts .held ≡ held-after (sector x) (row-answer (sector x) s) (s .controller .counts .held)
@@ -360,12 +353,17 @@ bufc-shows s h =
     ap (replied 0)
     (h .invariant .consistent .buffered ∙ ap (λ (k : ℕ). k + weight (s .controller .counts .held) 1) (sym (h .good)))
 
+tarsta-shows : (s : Row) → row-answer (plain (Read 0x80)) s ≡ replied 0 (tarsta-byte (s .controller .judgement))
+unfolding row-answer stepped read concluded
+tarsta-shows s = refl
+
 row-shows : (c : Call) (s : Row) → Valid s → Shows c (row-answer c s) (shown s) (s .controller .counts .held)
 row-shows c s h =
     record {
       looked = λ e. rw e (look-shows s h);
       tcc = λ e. rw e (tcc-shows s h);
       bufc = λ e. rw e (bufc-shows s h);
+      tarsta = λ e. rw e (tarsta-shows s);
     }
 
 row-run : (cs : List Call) (s : Row) (b : Book) (held : Bool) → Valid s → shown s ≡ b → s .controller .counts .held ≡ held → Shows-run the-row cs s b held
@@ -394,6 +392,7 @@ shows-over c a r b held e s =
       looked = λ i. subst (λ (d : Call). masked d a ≡ masked d r) i e ∙ s .looked i;
       tcc = λ i. subst (λ (d : Call). masked d a ≡ masked d r) i e ∙ s .tcc i;
       bufc = λ i. subst (λ (d : Call). masked d a ≡ masked d r) i e ∙ s .bufc i;
+      tarsta = λ i. subst (λ (d : Call). masked d a ≡ masked d r) i e ∙ s .tarsta i;
     }
 
 module _ (M R : Machine) (S : Simulation M R) where

@@ -68,10 +68,11 @@ module _ (M R : Machine) (S : Simulation M R) where
       a)
 
   faithful-over : (cs : List Call) (s : M .State) (r : R .State) (b : Book) → S .Related s r → Faithful R cs r b → Faithful M cs s b
-  faithful-over [] s r b h f = tt
+  faithful-over [] s r b h f = S .facts s r h ∙ f
   faithful-over (c ∷ cs) s r b h f = (
     right-over c (M .answer c s) (R .answer c r) b (S .answer c s r h) (f .0),
-    faithful-over cs _ _ _ (S .step c s r h) (subst (λ (n : ℕ). Faithful R cs (R .step c r) (feed c n b)) (sym (same c s r h)) (f .1)),
+    S .facts s r h ∙ f .1,
+    faithful-over cs _ _ _ (S .step c s r h) (subst (λ (n : ℕ). Faithful R cs (R .step c r) (feed c n b)) (sym (same c s r h)) (f .2)),
   )
 
   pub simulated : Demand3 R → Demand3 M

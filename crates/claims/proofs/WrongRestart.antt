@@ -1,17 +1,14 @@
 -- A machine that does not take B back at a restart is shut out: the bad block stays at T, and is served for the good one. Assumes nothing.
 use Prim.Native.Nat.{ℕ, _*_}
-use mathlib.Core.Path.{_≡_, refl, ap}
+use mathlib.Core.Path.{_≡_, refl}
 use mathlib.Core.Bool.{true, false}
 use mathlib.Core.List.{List, [], _∷_, _++_}
 use native.Mathlib.Omega.{arith}
 use lib.ListN.{length, replicate, length-replicate}
 use Rattle.sector.specs.Address.{next}
+use Rattle.sector.specs.Claims.{elsewhere}
 use Rattle.sector.specs.Sector.{body, framed}
-use Rattle.sector.specs.Judge.{judgement}
-use Rattle.sector.specs.declared.Address.{Address}
-use Rattle.sector.specs.declared.Judgement.{Judgement}
 use Rattle.sector.proofs.Frames.{length-framed}
-use Rattle.sector.proofs.Sealed.{judged-other}
 use Rattle.controller.specs.Calls.{stepped}
 use Rattle.controller.specs.Decoder.{admission, counted}
 use Rattle.controller.specs.Fields.{_▹_, bufc≔, held≔, judgement≔, window≔, adcen≔, bsy≔}
@@ -34,19 +31,12 @@ use Rattle.claims.specs.Demand3.{Demand3}
 use Rattle.claims.specs.Runs.{disc, set-up, restart, transfer, ok, Gives}
 use Rattle.claims.specs.Wrong.{Shut-out, restart-step, bad-restart}
 use Rattle.claims.proofs.OneBook.{shut-out}
-use Rattle.claims.proofs.Runs.{calls, _then_, opened, by-row, decoded, frame, decoding, filled, own}
+use Rattle.claims.proofs.Runs.{calls, _then_, opened, by-row, decoded, frame, decoding, filled, own, not-expected}
 use Rattle.claims.proofs.Stages.{chip-with, on-disc, on-word, one-stored, two-stored}
-
-abbrev elsewhere : Judgement
-elsewhere = record { staerr = false; hcei = true }
 
 -- the controller when the transfer has started
 abbrev moving : Controller
 moving = started (decoding 1 ▹ window≔ (record { offset = 14; words = 1 }) ▹ adcen≔ true ▹ bsy≔ true)
-
-not-expected : (u : List ℕ) → length u ≡ 2352 → judgement (frame 0) (framed (frame 5) u) ≡ elsewhere
-not-expected u size =
-    judged-other (frame 5) u size (frame 0) refl refl (λ e. let z : _≡_ {A = ℕ} 0 5 = ap (λ (a : Address). a .frame) e in omega arith)
 
 module _ (x u : List ℕ) (fits : length x ≡ 3 * 2560) (size : length u ≡ 2352) where
   abbrev bad : List ℕ

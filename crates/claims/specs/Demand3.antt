@@ -1,4 +1,4 @@
--- Demand 3 (paper 01, "Demand 3 in full"), stated of any machine with the chip's calls. Assumes nothing.
+-- Demand 3 (paper 01, "Demand 3 in full"; paper 02, ask 1), stated of any machine with the chip's calls. Assumes nothing.
 use Prim.Native.Nat.{ℕ, _+_, _*_, _≤_}
 use mathlib.Core.Path.{_≡_}
 use mathlib.Core.Bool.{Bool, true, false, _&&_, _||_, not}
@@ -72,10 +72,11 @@ Right (plain c) a b = Wordless a
 Right (sector s) a b = Wordless a
 Right look a b = Wordless a
 
--- over a whole list, past any stop
+-- over a whole list, past any stop; and before each call and after the last the facts are the book's
 abbrev pub Faithful : (M : Machine) → List Call → M .State → Book → Type 0
-Faithful M [] s b = Unit {0}
-Faithful M (c ∷ cs) s b = Right c (M .answer c s) b × Faithful M cs (M .step c s) (feed c (number (M .answer c s)) b)
+Faithful M [] s b = M .facts s ≡ b .facts
+Faithful M (c ∷ cs) s b =
+    Right c (M .answer c s) b × (M .facts s ≡ b .facts) × Faithful M cs (M .step c s) (feed c (number (M .answer c s)) b)
 
 -- The claim, over all lists of calls, all sizes and all bytes in either memory
 pub record Demand3 (M : Machine) : Type 0 where

@@ -1,5 +1,5 @@
 -- A table beside the bench cases, with the numbers written out: what no other claim would notice if code and definition had it wrong alike (paper
--- 01, "Reply numbers", "The ring", "Host and transfers"). Starts with ATLIM 0 and their byte counts, a sector with a wrong code, looks at an offset,
+-- 01, "Reply numbers", "The ring", "Host and transfers"). Starts with ATLIM 0 and their byte counts, a sector with a wrong code, the facts that are kept, looks at an offset,
 -- lent rings of a wrong size, a refused opening, and for each test of soundness a record just outside it and one just inside. A row with conditions
 -- holds of every chip that meets them; PinsMet says that there are such, and that calls lead to them. Assumes nothing.
 use Prim.Native.Nat.{ℕ, _+_, _*_, _<_, _≤_}
@@ -9,7 +9,7 @@ use mathlib.Core.List.{List, [], _∷_, _++_}
 use mathlib.Core.Logic.{_⊎_}
 use lib.ListN.{length, take, drop, getD, set}
 use Rattle.calls.specs.declared.Call.{Call as Plain}
-use Rattle.calls.specs.declared.Call.the-variants.{Write, Status}
+use Rattle.calls.specs.declared.Call.the-variants.{Write, Reset, Status}
 use Rattle.laws.specs.Bytes.{Bytes}
 use Rattle.scramble.specs.Scramble.{scrambled}
 use Rattle.sector.specs.Sector.{framed}
@@ -18,7 +18,7 @@ use Rattle.controller.specs.State.{initial}
 use Rattle.controller.specs.declared.state.Controller.{Controller}
 use Rattle.ring.specs.Place.{at}
 use Rattle.ring.specs.declared.Place.{Place}
-use Rattle.outcomes.specs.Machine.{Call, sector, look, word, replied, handed, seen}
+use Rattle.outcomes.specs.Machine.{Call, plain, sector, look, word, Answer, replied, handed, seen}
 use Rattle.chip.specs.Chip.{opened, refused}
 use Rattle.chip.specs.Sound.{sound}
 use Rattle.chip.specs.Calls.{called, lent, sector-lent, looked, word-told}
@@ -26,7 +26,7 @@ use Rattle.chip.specs.Machine.{the-chip}
 use Rattle.chip.specs.declared.Chip.{Chip}
 use Rattle.chip.specs.declared.Word.the-variants.{Refused}
 use Rattle.claims.specs.Cases.{number, afterwards, address, Reachable}
-use Rattle.claims.specs.Runs.{read, set-window, disc, set-up, transfer, ok, Gives}
+use Rattle.claims.specs.Runs.{read, set-window, srst, disc, set-up, restart, transfer, ok, Gives, telling-why}
 
 -- Starts
 
@@ -74,6 +74,10 @@ pub record GivenCode (u : List ℕ) (k v : ℕ) : Type 0 where
   pub before : k < 2068
   pub byte : v < 256
   pub other : v ≡ getD (framed (address 0 2 1) u) k 0 → ⊥
+
+-- as the machine that tells why answers
+abbrev pub kept : ℕ → Answer
+kept n = replied 0 n
 
 -- Rings of a wrong size
 
@@ -132,6 +136,12 @@ pub record Pins : Type 0 where
       → Gives the-chip 3
       (set-up ++ disc u 0 ∷ damaged u 1 k v ∷ read 0x80 ∷ read 0x9D ∷ read 0x9B ∷ disc u 1 ∷ [])
       (ok ∷ ok ∷ ok ∷ ok ∷ replied 0 0x40 ∷ replied 0 0x40 ∷ replied 0 1 ∷ replied 0 2 ∷ replied 8 0 ∷ [])
+  -- what is kept after each call: 1 of a sector of another place, through a refused sector, a read, SRST and DECEN low and high; 0 of a good one; 2 of
+  -- one with a changed byte, 16 to 2,067; 0 after a chip reset
+  pub why-kept : (u : List ℕ) (k v : ℕ) → GivenCode u k v
+      → Gives (telling-why the-chip) 3
+      (set-up ++ disc u 5 ∷ disc u 0 ∷ read 0x80 ∷ srst ∷ restart ++ disc u 0 ∷ damaged u 1 k v ∷ disc u 1 ∷ plain Reset ∷ [])
+      (kept 0 ∷ kept 0 ∷ kept 0 ∷ kept 1 ∷ kept 1 ∷ kept 1 ∷ kept 1 ∷ kept 1 ∷ kept 1 ∷ kept 0 ∷ kept 2 ∷ kept 2 ∷ kept 0 ∷ [])
   -- a look at four bytes from byte 12 on, at two from byte 13 on, and at the same of the next sector when the first was taken
   pub look-headers : (u : List ℕ) → length u ≡ 2352
       → Gives the-chip 3

@@ -5,6 +5,7 @@ use Prim.Native.Nat.{ℕ, _*_}
 use mathlib.Core.Path.{_≡_}
 use mathlib.Core.List.{List, [], _∷_, _++_}
 use lib.ListN.{length}
+use Rattle.sector.specs.Judge.{why}
 use Rattle.sector.specs.Sector.{sealed}
 use Rattle.calls.specs.declared.Call.the-variants.{Write, Read, SetWindow, Command, Srst}
 use Rattle.outcomes.specs.Machine.{Call, plain, sector, word, Answer, replied, handed, Machine, answers}
@@ -48,6 +49,17 @@ ok = replied 0 0
 -- opened with n blocks over any memory of that size, a machine gives these answers to these calls
 pub record Gives (M : Machine) (n : ℕ) (cs : List Call) (rs : List Answer) : Type 0 where
   pub given : (x : List ℕ) → length x ≡ n * 2560 → answers M cs (M .opened n x) ≡ rs
+
+-- a machine that answers each call by what it keeps after it, as the number why
+abbrev pub telling-why : Machine → Machine
+telling-why M =
+    record {
+      State = M .State;
+      opened = M .opened;
+      answer = λ c s. replied 0 (why (M .facts (M .step c s) .judgement));
+      step = M .step;
+      facts = M .facts;
+    }
 
 pub record Met (M : Machine) (u : List ℕ) : Type 0 where
   -- two words of one sector: minute and second, frame and mode

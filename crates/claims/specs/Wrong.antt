@@ -1,10 +1,12 @@
--- Three machines that make a slip which paper 01 names ("What the contracts must pin", "Slips seen on other boards"), each the chip but for
--- one call. proofs/WrongRestart.antt, WrongAbort.antt and WrongWord.antt show that demand 3 shuts them out. Assumes nothing.
+-- Four machines that make a slip, each the chip but for one call: three that paper 01 names ("What the contracts must pin", "Slips seen on other
+-- boards"), and one that keeps the facts of a refused sector (paper 02, ask 1). proofs/WrongRestart.antt, WrongAbort.antt, WrongWord.antt and
+-- WrongFacts.antt show that demand 3 shuts them out. Assumes nothing.
 use Prim.Native.Nat.{ℕ, _-_}
 use mathlib.Core.Bool.{_&&_, not}
 use lib.Dec.{eqb}
 use Rattle.laws.specs.Choice.{if_then_else_}
-use Rattle.controller.specs.Fields.{_▹_, tcc≔, bufc≔}
+use Rattle.sector.specs.Receive.{received}
+use Rattle.controller.specs.Fields.{_▹_, tcc≔, bufc≔, judgement≔}
 use Rattle.controller.specs.declared.step.Event.the-variants.{Advance}
 use Rattle.ring.specs.Place.{place-step}
 use Rattle.calls.specs.Choice.{if-write, if-srst}
@@ -63,3 +65,19 @@ constant-answer k word s = if eqb (number (chip-answer word s)) 0 then handed k 
 
 abbrev pub constant-word : ℕ → Machine
 constant-word k = record { State = State; opened = the-chip .opened; answer = constant-answer k; step = chip-step; facts = the-chip .facts }
+
+-- a sector that is refused is judged all the same, and its facts are kept. Two rings of it show the same facts, one wrong as the other: it is the book
+-- that shuts it out.
+unfoldable pub refused-step : Call → State → State
+refused-step (plain c) s = chip-step (plain c) s
+refused-step (sector x) s =
+    if eqb (number (chip-answer (sector x) s)) 0 then chip-step (sector x) s
+    else
+    over
+    (record { controller = s .chip .controller ▹ judgement≔ (received (s .chip .controller .expected) x .judgement); place = s .chip .place })
+    (s .ring)
+refused-step look s = chip-step look s
+refused-step word s = chip-step word s
+
+abbrev pub keeping-refused : Machine
+keeping-refused = record { State = State; opened = the-chip .opened; answer = chip-answer; step = refused-step; facts = the-chip .facts }

@@ -1,4 +1,4 @@
--- A sector from the disc (paper 01, "The ring"; 001, BICCTL (9Ah), BUFC (9Bh), TCC (9Dh), TARSTA (80h)). Assumes nothing.
+-- A sector from the disc (paper 01, "The ring"; 001, BICCTL (9Ah), BUFC (9Bh), TCC (9Dh), TARSTA (80h); paper 02, ask 1). Assumes nothing.
 use Prim.Native.Nat.{ℕ, _+_}
 use mathlib.Core.Bool.{Bool, true, not}
 use lib.Dec.{leb}
@@ -24,8 +24,8 @@ admission c full =
     else if at-stop c full then 9
     else 0
 
--- a sector was stored and judged: BUFC goes up by 1, 80h shows the judgement and is the result; a good one lets TCC and the expected address
--- go up by 1, after a bad one the chip is held (H)
+-- a sector was stored and judged: BUFC goes up by 1, its facts are kept, and 80h, made of them, is the result; a good one lets TCC and the expected
+-- address go up by 1, after a bad one the chip is held (H)
 unfoldable pub counted : Controller → Judgement → Step
 counted c j =
     if good j

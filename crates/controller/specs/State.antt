@@ -2,6 +2,7 @@
 -- are 14h and EBh, all else is 0. Assumes nothing.
 use mathlib.Core.Bool.{false}
 use lib.ListN.{replicate}
+use Rattle.sector.specs.Judge.{no-facts}
 use Rattle.controller.specs.declared.state.Controller.{Controller}
 
 abbrev pub initial : Controller
@@ -15,7 +16,7 @@ initial =
       atsta = record { bsy = false; drdy = false; dsc = false; drq = false; corr = false; check = false };
       ascsta = record { drdy = false; corr = false; check = false };
       adsc = false;
-      judgement = record { staerr = false; hcei = false };
+      judgement = no-facts;
       task = record { aterr = 0; atint = 0; atblo = 0x14; atbhi = 0xEB; atcmd = 0 };
       mbc = 0;
       window = record { offset = 0; words = 0 };

@@ -86,7 +86,7 @@ pub struct Packet {
     pub bytes: [u8; 12],
 }
 
-// adsc is bit 4 of APKSTA (3Dh); judgement is TARSTA (80h); mbc is MBTC0 (12h).
+// adsc is bit 4 of APKSTA (3Dh); judgement is of the last stored sector, shown by TARSTA (80h); mbc is MBTC0 (12h).
 pub struct Controller {
     pub counts: Counts,
     pub expected: Address,
@@ -128,8 +128,10 @@ impl Controller {
             },
             adsc: false,
             judgement: Judgement {
-                staerr: false,
-                hcei: false,
+                sync: false,
+                mode: false,
+                edc: false,
+                address: false,
             },
             task: first_task(),
             mbc: 0,

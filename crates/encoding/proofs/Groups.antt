@@ -4,6 +4,7 @@ use mathlib.Core.Path.{_≡_}
 use mathlib.Core.List.{List, [], _∷_}
 use Rattle.sector.specs.declared.Address.{Address}
 use Rattle.sector.specs.declared.Judgement.{Judgement}
+use Rattle.controller.specs.Bits.{bit}
 use Rattle.controller.specs.declared.state.Acctl.{Acctl}
 use Rattle.controller.specs.declared.state.Ascsta.{Ascsta}
 use Rattle.controller.specs.declared.state.Asctrl.{Asctrl}
@@ -22,6 +23,10 @@ module _ (ws : List ℕ) where
   pub acctl-of : {x : ℕ} → x ≡ low (word ws 16)
       → record { atten = switch ws 20 4; acmen = switch ws 20 5; tcincen = switch ws 20 6; atlim = x } ≡ controller-in ws .acctl
   acctl-of e = simp e
+
+  pub judgement-of : {w : ℕ} → w ≡ high (word ws 19)
+      → record { sync = bit w 3; mode = bit w 2; edc = bit w 1; address = bit w 0 } ≡ controller-in ws .judgement
+  judgement-of e = simp e
 
   pub task-of : {a b c d e : ℕ} → a ≡ low (word ws 17) → b ≡ high (word ws 17) → c ≡ low (word ws 18) → d ≡ high (word ws 18) → e ≡ low (word ws 19)
       → record { aterr = a; atint = b; atblo = c; atbhi = d; atcmd = e } ≡ controller-in ws .task

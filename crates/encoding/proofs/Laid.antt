@@ -11,10 +11,13 @@ use Rattle.laws.specs.Bytes.{Bytes}
 use Rattle.laws.specs.Numbers.{weight, switches}
 use Rattle.laws.proofs.Ends.{drop-next}
 use Rattle.laws.proofs.Switches.{weight-times, switch-at, weight-tests}
+use Rattle.sector.specs.Judge.{why}
+use Rattle.sector.specs.declared.Judgement.{Judgement}
+use Rattle.sector.proofs.Answers.{same-facts}
 use Rattle.controller.specs.Bits.{bit}
 use Rattle.controller.specs.declared.state.Controller.{Controller}
 use Rattle.chip.specs.declared.Chip.{Chip}
-use Rattle.encoding.specs.Words.{word, switch, pair, low, high, packet-bytes, controller-in, place-in, decoded, first-switches, second-switches, packet-pairs, encoded, Ranged, EncodingClaim}
+use Rattle.encoding.specs.Words.{word, switch, pair, low, high, facts-in, packet-bytes, controller-in, place-in, decoded, first-switches, second-switches, packet-pairs, encoded, Ranged, EncodingClaim}
 
 -- eight switches by their weights
 pub flags-of : (a b c d e f g h : Bool) {s t u v w x y z : ℕ} → s ≡ weight a 1 → t ≡ weight b 2 → u ≡ weight c 4 → v ≡ weight d 8 → w ≡ weight e 16
@@ -27,7 +30,7 @@ flags-of a b c d e f g h es et eu ev ew ex ey ez =
 module _ (k : Controller) {x y r : ℕ} (is : r ≡ pair x y) where
   pub first-of :
       x ≡ switches (k .counts .held ∷ k .buffering .decen ∷ k .buffering .blimen ∷ k .buffering .blims ∷ k .acctl .atten ∷ k .acctl .acmen ∷ k .acctl .tcincen ∷ k .adsc ∷ [])
-      → y ≡ switches (k .asctrl .apkten ∷ k .asctrl .adcen ∷ k .asctrl .ascen ∷ k .asctrl .autoen ∷ k .asctrl .stwcen ∷ k .asctrl .a0ien ∷ k .judgement .staerr ∷ k .judgement .hcei ∷ [])
+      → y ≡ switches (k .asctrl .apkten ∷ k .asctrl .adcen ∷ k .asctrl .ascen ∷ k .asctrl .autoen ∷ k .asctrl .stwcen ∷ k .asctrl .a0ien ∷ false ∷ false ∷ [])
       → r ≡ switches (first-switches k)
   first-of ex ey = omega (arith, is, ex, ey)
 
@@ -47,7 +50,7 @@ module _ (c : Chip) where
   abbrev k : Controller
   k = c .controller
 
-  pub words-of : {a b d e f g : ℕ} → a ≡ pair (k .acctl .atlim) (k .mbc) → b ≡ pair (k .task .aterr) (k .task .atint) → d ≡ pair (k .task .atblo) (k .task .atbhi) → e ≡ k .task .atcmd
+  pub words-of : {a b d e f g : ℕ} → a ≡ pair (k .acctl .atlim) (k .mbc) → b ≡ pair (k .task .aterr) (k .task .atint) → d ≡ pair (k .task .atblo) (k .task .atbhi) → e ≡ pair (k .task .atcmd) (why (k .judgement))
       → f ≡ switches (first-switches k) → g ≡ switches (second-switches k)
       → {ps : List ℕ} → ps ≡ packet-pairs (k .packet .bytes)
       → c .place .n ∷ c .place .t ∷ c .place .b ∷ c .place .last ∷ k .counts .tcc ∷ k .counts .bufc ∷ k .counts .ttc
@@ -65,11 +68,17 @@ low-pair a b h = omega arith
 high-pair : (a b : ℕ) → a < 256 → high (pair a b) ≡ b
 high-pair a b h = omega arith
 
-low-alone : (a : ℕ) → a < 256 → low a ≡ a
-low-alone a h = omega arith
-
 switch-is : (bs : List Bool) (i : ℕ) → bit (switches bs) i ≡ getD bs i false
 switch-is bs i = ap (λ (x : ℕ). eqb x 1) (switch-at bs i) ∙ weight-tests (getD bs i false)
+
+-- the facts are known from their number
+why-switches : (j : Judgement) → why j ≡ switches (j .address ∷ j .edc ∷ j .mode ∷ j .sync ∷ [])
+why-switches j = omega (arith, weight-times (j .sync) 8, weight-times (j .mode) 4, weight-times (j .edc) 2)
+
+facts-back : (j : Judgement) → facts-in (why j) ≡ j
+facts-back j =
+    let at = switch-is (j .address ∷ j .edc ∷ j .mode ∷ j .sync ∷ []) in
+    ap facts-in (why-switches j) ∙ same-facts (facts-in (switches (j .address ∷ j .edc ∷ j .mode ∷ j .sync ∷ []))) j (at 3) (at 2) (at 1) (at 0)
 
 -- a list's elements, written out from place i on
 abbrev spelled : List ℕ → ℕ → ℕ → List ℕ
@@ -125,8 +134,6 @@ module _ (c : Chip) (h : Ranged c) where
         first 11,
         first 12,
         first 13,
-        first 14,
-        first 15,
         second 0,
         second 1,
         second 2,
@@ -147,7 +154,9 @@ module _ (c : Chip) (h : Ranged c) where
         high-pair (bytes .task .aterr) (bytes .task .atint) (h .aterr),
         low-pair (bytes .task .atblo) (bytes .task .atbhi) (h .atblo),
         high-pair (bytes .task .atblo) (bytes .task .atbhi) (h .atblo),
-        low-alone (bytes .task .atcmd) (h .atcmd),
+        low-pair (bytes .task .atcmd) (why (bytes .judgement)) (h .atcmd),
+        high-pair (bytes .task .atcmd) (why (bytes .judgement)) (h .atcmd),
+        facts-back (bytes .judgement),
         packet-back,
       )
 

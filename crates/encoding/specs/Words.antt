@@ -1,5 +1,5 @@
--- A chip's record as 28 words of sixteen bits: words 0 to 15 are numbers, 16 to 19 bytes, 20 and 21 switches, 22 to 27 the packet's bytes. Any 28
--- words are some record; what soundness asks of it is the chip's to test (paper 01, "Reply numbers"). Assumes nothing.
+-- A chip's record as 28 words of sixteen bits: words 0 to 15 are numbers, 16 to 19 bytes, the kept facts as the number why among them, 20 and 21
+-- switches, 22 to 27 the packet's bytes. Any 28 words are some record; what soundness asks of it is the chip's to test (paper 01, "Reply numbers"). Assumes nothing.
 use Prim.Native.Nat.{ℕ, _+_, _*_, _/_, _%_, _<_}
 use mathlib.Core.Path.{_≡_}
 use mathlib.Core.Bool.{Bool}
@@ -7,6 +7,8 @@ use mathlib.Core.List.{List, [], _∷_}
 use lib.ListN.{length, getD}
 use Rattle.laws.specs.Bytes.{Bytes}
 use Rattle.laws.specs.Numbers.{switches}
+use Rattle.sector.specs.Judge.{why}
+use Rattle.sector.specs.declared.Judgement.{Judgement}
 use Rattle.controller.specs.Bits.{bit}
 use Rattle.controller.specs.Fields.{_▹_, position≔}
 use Rattle.controller.specs.declared.state.Controller.{Controller}
@@ -29,6 +31,10 @@ low w = w % 256
 
 abbrev pub high : ℕ → ℕ
 high w = w / 256
+
+-- the facts whose number is w
+abbrev pub facts-in : ℕ → Judgement
+facts-in w = record { sync = bit w 3; mode = bit w 2; edc = bit w 1; address = bit w 0 }
 
 abbrev pub packet-bytes : List ℕ → List ℕ
 packet-bytes ws =
@@ -62,7 +68,7 @@ controller-in ws =
           };
       ascsta = record { drdy = switch ws 21 8; corr = switch ws 21 9; check = switch ws 21 10 };
       adsc = switch ws 20 7;
-      judgement = record { staerr = switch ws 20 14; hcei = switch ws 20 15 };
+      judgement = facts-in (high (word ws 19));
       task =
           record {
             aterr = low (word ws 17);
@@ -101,8 +107,7 @@ abbrev pub first-switches : Controller → List Bool
 first-switches k =
     k .counts .held ∷ k .buffering .decen ∷ k .buffering .blimen ∷ k .buffering .blims
     ∷ k .acctl .atten ∷ k .acctl .acmen ∷ k .acctl .tcincen ∷ k .adsc
-    ∷ k .asctrl .apkten ∷ k .asctrl .adcen ∷ k .asctrl .ascen ∷ k .asctrl .autoen ∷ k .asctrl .stwcen ∷ k .asctrl .a0ien
-    ∷ k .judgement .staerr ∷ k .judgement .hcei ∷ []
+    ∷ k .asctrl .apkten ∷ k .asctrl .adcen ∷ k .asctrl .ascen ∷ k .asctrl .autoen ∷ k .asctrl .stwcen ∷ k .asctrl .a0ien ∷ []
 
 abbrev pub second-switches : Controller → List Bool
 second-switches k =
@@ -125,7 +130,7 @@ encoded c =
     ∷ k .expected .minute ∷ k .expected .second ∷ k .expected .frame
     ∷ k .buffering .buflim ∷ k .window .offset ∷ k .window .words
     ∷ k .transfer .left ∷ k .transfer .position ∷ k .packet .received
-    ∷ pair (k .acctl .atlim) (k .mbc) ∷ pair (k .task .aterr) (k .task .atint) ∷ pair (k .task .atblo) (k .task .atbhi) ∷ k .task .atcmd
+    ∷ pair (k .acctl .atlim) (k .mbc) ∷ pair (k .task .aterr) (k .task .atint) ∷ pair (k .task .atblo) (k .task .atbhi) ∷ pair (k .task .atcmd) (why (k .judgement))
     ∷ switches (first-switches k) ∷ switches (second-switches k)
     ∷ packet-pairs (k .packet .bytes)
 

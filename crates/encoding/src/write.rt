@@ -3,12 +3,13 @@ use crate::pairs::flags;
 use crate::pairs::pair;
 use chip::Chip;
 use controller::Controller;
-use numbers::wide;
+use sector::Judgement;
 ghost use mathlib.Core.Path.{_≡_};
 ghost use Prim.Native.Nat.{_+_, _<_};
 ghost use lib.ListN.{length, set};
 ghost use Rattle.laws.specs.Bytes.{Bytes};
 ghost use Rattle.laws.specs.Numbers.{switches};
+ghost use Rattle.sector.specs.Judge.{why};
 ghost use Rattle.encoding.specs.Words.{word, decoded, at-position, encoded, first-switches, second-switches, packet-pairs, Ranged};
 
 // Word 20.
@@ -33,8 +34,8 @@ fn first_switches(c: Controller) -> u16
             c.asctrl.autoen,
             c.asctrl.stwcen,
             c.asctrl.a0ien,
-            c.judgement.staerr,
-            c.judgement.hcei,
+            false,
+            false,
         ),
     )
 }
@@ -67,6 +68,13 @@ fn second_switches(c: Controller) -> u16
     )
 }
 
+// The high byte of word 19.
+fn facts(judgement: Judgement) -> u8
+    ensures { λ r. ⌜ r ≡ why judgement ⌝ }
+{
+    judgement.why() as u8
+}
+
 // Words 22 to 27.
 fn packet_words(bytes: [u8; 12]) -> [u16; 6]
     ensures { λ r. ⌜ (r ≡ packet-pairs bytes) × Bytes bytes × (length bytes ≡ 12) ⌝ }
@@ -90,6 +98,8 @@ fn laid(chip: Chip) -> [u16; 28]
     let received = c.packet;
     let bytes = received.bytes;
     let packet = packet_words(bytes);
+    let judgement = c.judgement;
+    let facts = facts(judgement);
     [
         place.n,
         place.t,
@@ -110,7 +120,7 @@ fn laid(chip: Chip) -> [u16; 28]
         pair(c.acctl.atlim, c.mbc),
         pair(c.task.aterr, c.task.atint),
         pair(c.task.atblo, c.task.atbhi),
-        wide(c.task.atcmd),
+        pair(c.task.atcmd, facts),
         first_switches(c),
         second_switches(c),
         packet[0],

@@ -6,7 +6,7 @@ use Rattle.sector.specs.declared.Address.{Address}
 use Rattle.reply.specs.declared.Reply.{Reply}
 use Rattle.sector.specs.declared.Judged.{Judged}
 use Rattle.sector.specs.Calls.{seal-reply, open-reply, judge-answer}
-use Rattle.sector.specs.Judge.{tarsta-byte}
+use Rattle.sector.specs.Judge.{why}
 use Rattle.script.specs.Bench.{Left, started}
 use Rattle.script.specs.Feed.{fed-text}
 use Rattle.script.specs.declared.lines.Fed.{Fed}
@@ -20,9 +20,9 @@ packed number result = number + 256 * result
 abbrev pub reply-word : Reply → ℕ
 reply-word r = packed (r .number) (r .result)
 
--- the result of a judging is the byte of register 80h: STAERR in bit 6, HCEI in bit 0
+-- the result of a judging is its four facts as the number why
 abbrev pub judged-word : Judged → ℕ
-judged-word j = packed (j .number) (tarsta-byte (j .judgement))
+judged-word j = packed (j .number) (why (j .judgement))
 
 abbrev pub seal-word : List ℕ → Address → ℕ
 seal-word s a = reply-word (seal-reply s a)

@@ -34,14 +34,14 @@ pub extern "C" fn cdrom_open(sector: &mut [u8]) -> u32
 }
 
 // Judges an opened sector against the address that is expected of it.
-// Ruled out: one that answers 0 where it refused, and one that puts the reply number above the bits.
+// Ruled out: one that answers 0 where it refused, and one that answers the byte of register 80h.
 #[no_mangle]
 pub extern "C" fn cdrom_judge(sector: &[u8], minute: u16, second: u16, frame: u16) -> u32
     ensures { λ r. ⌜ r ≡ judge-word (now (sector .entry)) (at minute second frame) ⌝ }
 {
     let judged = sector::judge(sector, at(minute, second, frame));
     let judgement = judged.judgement;
-    packed(judged.number, judgement.tarsta())
+    packed(judged.number, judgement.why())
 }
 
 // The error detection code of the bytes, whatever their number.

@@ -9,6 +9,7 @@ use numbers::weight;
 ghost use mathlib.Core.Path.{_≡_};
 ghost use Rattle.laws.specs.Numbers.{weight};
 ghost use Rattle.calls.specs.declared.Call.the-variants.{Write, Read, SetBlock, SetWindow, SetExpected, PacketByte, Reset, Command, PacketWord, Status, Srst};
+ghost use Rattle.sector.specs.Judge.{why};
 ghost use Rattle.chip.specs.Chip.{opened};
 ghost use Rattle.chip.specs.Calls.{called};
 ghost use Rattle.encoding.specs.Words.{decoded};
@@ -144,6 +145,18 @@ pub extern "C" fn cdrom_chip_srst(chip: &mut [u16; 28]) -> u32
     ensures { λ r. ⌜ Answered (called (decoded (now (chip .entry))) Srst) r (now (chip .entry)) (now (chip .exit)) ⌝ }
 {
     plain(chip, Call::Srst)
+}
+
+// What failed of the last sector that was stored.
+// Ruled out: one that shows the two bits of register 80h, and one that shows nothing of a record that is unsound.
+#[no_mangle]
+pub extern "C" fn cdrom_chip_why(chip: &[u16; 28]) -> u32
+    ensures { λ r. ⌜ r ≡ why (decoded (now (chip .entry)) .controller .judgement) ⌝ }
+{
+    let now = decode(chip);
+    let controller = now.controller;
+    let judgement = controller.judgement;
+    judgement.why() as u32
 }
 
 // The interrupt line to the host.

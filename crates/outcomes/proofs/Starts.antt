@@ -16,7 +16,7 @@ use Rattle.controller.specs.Step.{refused, done}
 use Rattle.controller.specs.Transfer.{engaged, start-switches, limit, start-mbc, blocks-lacking, byte-count, begun, started, start, settled}
 use Rattle.controller.specs.declared.state.Controller.{Controller}
 use Rattle.controller.specs.declared.step.Step.{Step}
-use Rattle.outcomes.specs.Book.{Book, book-of}
+use Rattle.outcomes.specs.Book.{Book, book-of, k≔}
 use Rattle.outcomes.specs.Invariant.{Consistent, Invariant}
 use Rattle.outcomes.proofs.Consistent.{consistent-like, consistent-initial}
 
@@ -144,7 +144,7 @@ started-position : (c : Controller) → engaged c ≡ false → Consistent c →
 started-position c q h = sym (h .idle (or-false (c .transfer .running) (c .packet .receiving) q .0) .1)
 
 abbrev shown-at : ℕ → List (List ℕ) → Controller → Book
-shown-at k row x = record { row = row; expected = x .expected; offset = x .window .offset; words = x .window .words; acmen = x .acctl .acmen; k = k }
+shown-at k row x = book-of x row ▹ k≔ k
 
 pub started-book : (c : Controller) (row : List (List ℕ)) → engaged c ≡ false → Consistent c → book-of (started c) row ≡ book-of c row
 started-book c row q h =

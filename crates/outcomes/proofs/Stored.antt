@@ -14,11 +14,12 @@ use Rattle.sector.specs.Receive.{received}
 use Rattle.sector.specs.declared.Judgement.{Judgement}
 use Rattle.sector.proofs.Claims.{next-holds}
 use Rattle.controller.specs.Decoder.{at-stop, admission, counted}
+use Rattle.controller.specs.Fields.{_▹_}
 use Rattle.controller.specs.Transfer.{concluded, settled}
 use Rattle.controller.specs.declared.state.Controller.{Controller}
 use Rattle.controller.specs.declared.step.Event.the-variants.{Store}
 use Rattle.controller.specs.declared.step.Step.{Step}
-use Rattle.outcomes.specs.Book.{book-of, takes, joined, fed}
+use Rattle.outcomes.specs.Book.{book-of, row≔, takes, judged, joined, fed}
 use Rattle.outcomes.specs.Invariant.{Consistent, Invariant}
 use Rattle.outcomes.specs.Machine.{sector}
 use Rattle.outcomes.specs.Row.{grown}
@@ -78,9 +79,9 @@ module _ (c : Controller) (h : Consistent c) (full : Bool) (a : Admitted c full)
         tcc = sym (if-true (good j) (c .counts .tcc + 1) (c .counts .tcc) fine);
         bufc = refl;
         shows = λ row.
-            ap (λ (z : List (List ℕ)). record { row = z; expected = next (c .expected); offset = c .window .offset; words = c .window .words; acmen = c .acctl .acmen; k = c .transfer .position })
+            ap (λ (z : List (List ℕ)). joined x (judged x (book-of c row)) ▹ row≔ z)
             (if-true (good j) (row ++ received (c .expected) x .bytes ∷ []) row fine)
-            ∙ sym (if-true (good j) (joined x (book-of c row)) (book-of c row) fine);
+            ∙ sym (if-true (good j) (joined x (judged x (book-of c row))) (judged x (book-of c row)) fine);
         buffering = refl;
       })
       (λ bad. record {
@@ -92,8 +93,8 @@ module _ (c : Controller) (h : Consistent c) (full : Bool) (a : Admitted c full)
         tcc = sym (if-false (good j) (c .counts .tcc + 1) (c .counts .tcc) bad);
         bufc = refl;
         shows = λ row.
-            ap (book-of c) (if-false (good j) (row ++ received (c .expected) x .bytes ∷ []) row bad)
-            ∙ sym (if-false (good j) (joined x (book-of c row)) (book-of c row) bad);
+            ap (λ (z : List (List ℕ)). judged x (book-of c z)) (if-false (good j) (row ++ received (c .expected) x .bytes ∷ []) row bad)
+            ∙ sym (if-false (good j) (joined x (judged x (book-of c row))) (judged x (book-of c row)) bad);
         buffering = refl;
       })
 

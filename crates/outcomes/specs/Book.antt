@@ -1,4 +1,5 @@
--- The book of a chip (paper 01, "Demand 3 in full"): fed only the chip's calls, with their arguments and reply numbers. Assumes nothing.
+-- The book of a chip (paper 01, "Demand 3 in full"; paper 02, ask 1): fed only the chip's calls, with their arguments and reply numbers.
+-- Assumes nothing.
 use Prim.Native.Nat.{ℕ, _+_}
 use mathlib.Core.Bool.{Bool, false, _&&_}
 use mathlib.Core.List.{List, [], _∷_, _++_}
@@ -15,9 +16,9 @@ use Rattle.sector.specs.declared.Address.{Address}
 use Rattle.controller.specs.Bits.{bit}
 use Rattle.controller.specs.Fields.{_▹_}
 use Rattle.controller.specs.declared.state.Controller.{Controller}
-use Rattle.outcomes.specs.Machine.{Call, plain, sector, look, word}
+use Rattle.outcomes.specs.Machine.{Call, plain, sector, look, word, Facts, none-kept}
 
--- a row of sectors, an address, a window, ACMEN and k
+-- a row of sectors, an address, a window, ACMEN and k; and the facts of the last sector
 pub record Book : Type 0 where
   pub row : List (List ℕ)
   pub expected : Address
@@ -25,32 +26,40 @@ pub record Book : Type 0 where
   pub words : ℕ
   pub acmen : Bool
   pub k : ℕ
+  pub facts : Facts
 
 -- setters, as the controller's fields have
 abbrev pub row≔ : List (List ℕ) → Book → Book
-row≔ v b = record { row = v; expected = b .expected; offset = b .offset; words = b .words; acmen = b .acmen; k = b .k }
+row≔ v b = record { row = v; expected = b .expected; offset = b .offset; words = b .words; acmen = b .acmen; k = b .k; facts = b .facts }
 
 abbrev pub expected≔ : Address → Book → Book
-expected≔ v b = record { row = b .row; expected = v; offset = b .offset; words = b .words; acmen = b .acmen; k = b .k }
+expected≔ v b = record { row = b .row; expected = v; offset = b .offset; words = b .words; acmen = b .acmen; k = b .k; facts = b .facts }
 
 abbrev pub window≔ : ℕ → ℕ → Book → Book
-window≔ o w b = record { row = b .row; expected = b .expected; offset = o; words = w; acmen = b .acmen; k = b .k }
+window≔ o w b = record { row = b .row; expected = b .expected; offset = o; words = w; acmen = b .acmen; k = b .k; facts = b .facts }
 
 abbrev pub acmen≔ : Bool → Book → Book
-acmen≔ v b = record { row = b .row; expected = b .expected; offset = b .offset; words = b .words; acmen = v; k = b .k }
+acmen≔ v b = record { row = b .row; expected = b .expected; offset = b .offset; words = b .words; acmen = v; k = b .k; facts = b .facts }
 
 abbrev pub k≔ : ℕ → Book → Book
-k≔ v b = record { row = b .row; expected = b .expected; offset = b .offset; words = b .words; acmen = b .acmen; k = v }
+k≔ v b = record { row = b .row; expected = b .expected; offset = b .offset; words = b .words; acmen = b .acmen; k = v; facts = b .facts }
 
--- at opening or chip reset the row is empty, the address is 00:02:00, there is no window, and ACMEN and k are 0
+abbrev pub facts≔ : Facts → Book → Book
+facts≔ v b = record { row = b .row; expected = b .expected; offset = b .offset; words = b .words; acmen = b .acmen; k = b .k; facts = v }
+
+-- at opening or chip reset the row is empty, the address is 00:02:00, there is no window, ACMEN and k are 0, and no fact is set
 abbrev pub first-book : Book
-first-book = record { row = []; expected = record { minute = 0; second = 2; frame = 0 }; offset = 0; words = 0; acmen = false; k = 0 }
+first-book = record { row = []; expected = record { minute = 0; second = 2; frame = 0 }; offset = 0; words = 0; acmen = false; k = 0; facts = none-kept }
 
 -- descrambled and judged against the book's address, nothing fails
 unfoldable pub takes : Book → List ℕ → Bool
 takes b s = good (received (b .expected) s .judgement)
 
--- it joins the row's end, and the address goes up by 1
+-- what fails is noted
+abbrev pub judged : List ℕ → Book → Book
+judged s b = b ▹ facts≔ (record { judgement = received (b .expected) s .judgement })
+
+-- a good one joins the row's end, and the address goes up by 1
 abbrev pub joined : List ℕ → Book → Book
 joined s b = b ▹ row≔ (b .row ++ received (b .expected) s .bytes ∷ []) ▹ expected≔ (next (b .expected))
 
@@ -79,13 +88,17 @@ fed-plain Status b = b
 -- a word: k goes up by 1; at the window's words the first sector leaves, taken, and k is 0
 abbrev pub fed : Call → Book → Book
 fed (plain c) b = fed-plain c b
-fed (sector s) b = if takes b s then joined s b else b
+fed (sector s) b = if takes b s then judged s b ▹ joined s else judged s b
 fed look b = b
 fed word b = if eqb (b .k + 1) (b .words) then b ▹ row≔ (drop 1 (b .row)) ▹ k≔ 0 else b ▹ k≔ (b .k + 1)
 
 -- refused calls change nothing; its type shows that only the call, its arguments and its reply number reach the book
 unfoldable pub feed : Call → ℕ → Book → Book
 feed c n b = if eqb n 0 then fed c b else b
+
+-- the facts that a controller keeps
+abbrev pub facts-of : Controller → Facts
+facts-of c = record { judgement = c .judgement }
 
 -- the book that a controller shows beside a row of sectors
 abbrev pub book-of : Controller → List (List ℕ) → Book
@@ -97,6 +110,7 @@ book-of c row =
       words = c .window .words;
       acmen = c .acctl .acmen;
       k = c .transfer .position;
+      facts = facts-of c;
     }
 
 -- BLIMS, as the calls answered with 0 leave it

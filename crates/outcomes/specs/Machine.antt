@@ -1,7 +1,9 @@
--- Lists of calls, and what a machine answers to them (paper 01, "Demand 3 in full"). Assumes nothing.
+-- Lists of calls, and what a machine answers to them and keeps (paper 01, "Demand 3 in full"; paper 02, ask 1). Assumes nothing.
 use Prim.Native.Nat.{ℕ}
 use mathlib.Core.List.{List, [], _∷_}
 use Rattle.calls.specs.declared.Call.{Call as Plain}
+use Rattle.sector.specs.Judge.{no-facts}
+use Rattle.sector.specs.declared.Judgement.{Judgement}
 
 -- the calls, with any arguments: those that touch no memory, a sector, a look, and the host's word
 pub data Call : Type 0 where
@@ -24,9 +26,13 @@ number (handed w) = 0
 number (refused n) = n
 number (seen bytes) = 0
 
--- what a machine shows beside its answers of what it keeps: nothing so far
-abbrev pub Facts : Type 0
-Facts = Unit {0}
+-- what a machine shows beside its answers of what it keeps: what failed of the last sector that was stored (paper 02, ask 1)
+pub record Facts : Type 0 where
+  pub judgement : Judgement
+
+-- as opened
+abbrev pub none-kept : Facts
+none-kept = record { judgement = no-facts }
 
 -- A machine: what it is when newly opened with a number of blocks over a memory, what it answers to a call and becomes by it, and the facts
 -- that it shows.

@@ -19,7 +19,7 @@ use Rattle.controller.specs.Transfer.{concluded}
 use Rattle.controller.specs.declared.state.Controller.{Controller}
 use Rattle.controller.specs.declared.step.RingFacts.{RingFacts}
 use Rattle.controller.specs.declared.step.Step.{Step}
-use Rattle.outcomes.specs.Book.{Book, book-of}
+use Rattle.outcomes.specs.Book.{Book, book-of, facts-of}
 use Rattle.outcomes.specs.Invariant.{Invariant, moved}
 use Rattle.outcomes.specs.Machine.{Call, plain, sector, look, word, Answer, replied, handed, refused, seen, Machine}
 
@@ -108,5 +108,5 @@ the-row =
       opened = λ n x. record { controller = initial; blocks = n; row = [] };
       answer = row-answer;
       step = row-step;
-      facts = λ s. tt;
+      facts = λ s. facts-of (s .controller);
     }

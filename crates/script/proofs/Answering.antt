@@ -8,8 +8,11 @@ use lib.Dec.{ltb, eqb}
 use lib.ListN.{length, take, drop, replicate, length-replicate, length-append, length-take, length-drop}
 use lib.Seq.{take-at, take-append-add, length-take-le}
 use borrow.Rule.Slice.PartMut.{putMid, midOf}
-use borrow.Author.Tests.{eq-eqb, ne-eqb, eqb-true, lt-ltb, le-ltb, ltb-false, not-false}
+use borrow.Author.Tests.{eq-eqb, ne-eqb, eqb-true, lt-ltb, le-ltb, ltb-false, leb-true, not-true, not-false}
+use Rattle.laws.specs.Bytes.{inverted}
+use Rattle.laws.proofs.Bytes.{length-inverted}
 use Rattle.laws.proofs.Parts.{put-rest, mid-rest, put-part}
+use Rattle.laws.proofs.Window.{length-window, length-put}
 use Rattle.laws.proofs.Choice.{if-case, if-true, if-false, not-of-true, not-of-false}
 use Rattle.sector.specs.Address.{valid}
 use Rattle.sector.specs.Calls.{seal-sector}
@@ -19,7 +22,9 @@ use Rattle.chip.specs.declared.Chip.{Chip}
 use Rattle.chip.specs.declared.WordTold.{WordTold}
 use Rattle.chip.specs.declared.Word.the-variants.{Handed, Refused}
 use Rattle.script.specs.Answers.{Answered, unchanged, refused, of-told, word, word-refused, unsealed, disc-number, brought, disc}
+use Rattle.script.specs.Damage.{inside, scratched}
 use Rattle.script.specs.declared.call.Answer.{Answer}
+use Rattle.script.specs.declared.disc.Damage.{Damage}
 
 -- the host word, by whether one is handed over
 module _ (c : Chip) (ring : List ℕ) (t : WordTold) (e : t ≡ calls.word-told c ring) where
@@ -75,18 +80,45 @@ module _ (c : Chip) (ring s : List ℕ) (a : Address) (byte : ℕ) where
 
   -- refused, and accepted
   module _ (n : ℕ) (e : n ≡ disc-number c ring s a byte) where
-    pub disc-not : (n ≡ 0 → ⊥) → unchanged ring s (refused true c n) ≡ disc c ring s a byte
+    pub disc-not : (d : Damage) → (n ≡ 0 → ⊥) → unchanged ring s (refused true c n) ≡ disc c d ring s a byte
     unfolding disc
-    disc-not z =
+    disc-not d z =
         ap (λ (m : ℕ). unchanged ring s (refused true c m)) e
         ∙ sym (if-false _ _ _ (ne-eqb _ _ (λ (q : disc-number c ring s a byte ≡ 0). z (e ∙ q))))
 
-    module _ (z : n ≡ 0) (l s′ : List ℕ) (u : l ≡ unsealed byte) (p : s′ ≡ seal-sector l a) where
-      pub disc-done : brought c ring s′ ≡ disc c ring s a byte
+    module _ (d : Damage) (z : n ≡ 0) (l s′ t : List ℕ) (u : l ≡ unsealed byte) (p : s′ ≡ seal-sector l a) (q : t ≡ scratched d s′) where
+      pub disc-done : brought c ring t ≡ disc c d ring s a byte
       unfolding disc
       disc-done =
-          ap (brought c ring) (p ∙ ap (λ (x : List ℕ). seal-sector x a) u)
+          ap (brought c ring) (q ∙ ap (scratched d) (p ∙ ap (λ (x : List ℕ). seal-sector x a) u))
           ∙ sym (if-true _ _ _ (eq-eqb _ _ (sym e ∙ z)))
+
+-- a sector that arrives damaged: as long as it was, and as the code leaves it
+module _ (d : Damage) (s : List ℕ) where
+  pub length-scratched : length s ≡ 2352 → length (scratched d s) ≡ 2352
+  unfolding scratched
+  length-scratched full =
+      if-case (λ (x : List ℕ). length x ≡ 2352) (inside (d .from) (d .count)) _ _
+      (λ fits.
+      let room = leb-true (d .from + d .count) 2352 fits in
+      let within : d .from + d .count ≤ length s = omega (arith, full) in
+      length-put (d .from) (d .count) s (inverted (take (d .count) (drop (d .from) s))) within
+      (length-inverted (take (d .count) (drop (d .from) s)) ∙ length-window (d .from) (d .count) s within)
+      ∙ full)
+      (λ _. full)
+
+  pub as-it-was : (b : Bool) → b ≡ inside (d .from) (d .count) → not b ≡ true → s ≡ scratched d s
+  unfolding scratched
+  as-it-was b e out = sym (if-false (inside (d .from) (d .count)) _ s (sym e ∙ not-true b out))
+
+  pub turned : (b : Bool) → b ≡ inside (d .from) (d .count) → not b ≡ false → (t : List ℕ) → t ≡ inverted (midOf (d .from) (d .from + d .count - d .from) s)
+      → putMid (d .from) (d .from + d .count - d .from) s t ≡ scratched d s
+  unfolding scratched
+  turned b e in-it t et =
+      let size : d .from + d .count - d .from ≡ d .count = omega arith in
+      put-part (d .from) (d .count) s t
+      ∙ ap (λ (x : List ℕ). take (d .from) s ++ (x ++ drop (d .from + d .count) s)) (et ∙ ap (λ (n : ℕ). inverted (take n (drop (d .from) s))) size)
+      ∙ sym (if-true (inside (d .from) (d .count)) _ s (sym e ∙ not-false b in-it))
 
 -- the three parts of a bench sector, put one behind the other
 pub laid : (s a b z : List ℕ) (byte : ℕ) → a ≡ replicate 16 0 → b ≡ replicate 2048 byte → z ≡ replicate 288 0 →

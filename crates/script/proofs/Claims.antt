@@ -6,7 +6,7 @@ use mathlib.Core.Bool.{Bool, true, false, not, _&&_, true≢false}
 use mathlib.Core.List.{List, [], _++_}
 use lib.Dec.{ltb, eqb}
 use lib.ListN.{length, take, drop, length-append, take-append-drop}
-use borrow.Author.Tests.{eq-eqb, eqb-true}
+use borrow.Author.Tests.{eq-eqb, ne-eqb, eqb-true}
 use Rattle.laws.specs.Choice.{if_then_else_}
 use Rattle.laws.proofs.Choice.{if-case, if-true, if-false, not-of-true}
 use Rattle.sector.specs.Address.{valid}
@@ -30,35 +30,43 @@ use Rattle.chip.specs.Machine.{over, of-word, chip-answer, chip-step}
 use Rattle.chip.specs.declared.Chip.{Chip}
 use Rattle.chip.specs.declared.Word.{Word}
 use Rattle.chip.specs.declared.Word.the-variants.{Handed, Refused}
-use Rattle.syntax.specs.Grammar.{form, onward, bare, several, named, parse}
+use Rattle.syntax.specs.Grammar.{form, onward, bare, disc as disc-line, several, named, parse}
 use Rattle.syntax.specs.declared.line.Line.{Line}
-use Rattle.syntax.specs.declared.line.Line.the-variants.{Malformed, Open, Plain, Look, Take, Disc}
-use Rattle.script.specs.Answers.{Answered, unchanged, answered, refused, of-told, opening, unsealed, disc-number, brought, disc, word, called, closed, size, with-rest, shown}
+use Rattle.syntax.specs.declared.line.Line.the-variants.{Malformed, Open, Plain, Look, Take, Disc, Scratch}
+use Rattle.script.specs.Answers.{Answered, unchanged, answered, refused, of-told, opening, unsealed, disc-number, brought, disc, scratching, word, called, closed, size, with-rest, shown}
+use Rattle.script.specs.Damage.{inside, scratched, damage-by, damage-after}
 use Rattle.script.specs.Bench as bench
 use Rattle.script.specs.Bench.{started, reply}
-use Rattle.script.proofs.Answering.{number-chip, admitted}
+use Rattle.script.proofs.Answering.{number-chip, admitted, length-scratched}
 use Rattle.script.specs.Claims.{Closed, ClosedClaim, RefusalClaim, out-of, Runs, MachineClaim}
 use Rattle.script.specs.declared.Bench.{Bench}
 use Rattle.script.specs.declared.call.Answer.{Answer}
+use Rattle.script.specs.declared.disc.Damage.{Damage}
 
 -- an answer that opens nothing is a refusal of the chip there was
 Refusal : Chip → Answer → Type 0
-Refusal c a = a .opened ≡ false → a ≡ refused false c (a .number)
+Refusal c a = a .opened ≡ false → (a ≡ refused false c (a .number)) × (eqb (a .number) 0 ≡ false)
 
 opening-cases : (c : Chip) (n : ℕ) (t u : Bool) → Refusal c (if t then refused false c 1 else if u then of-told (opened n) else refused false c 1)
 unfolding Refusal
-opening-cases c n true u e = refl
+opening-cases c n true u e = (refl, refl)
 opening-cases c n false true e = absurd (true≢false e)
-opening-cases c n false false e = refl
+opening-cases c n false false e = (refl, refl)
 
 closed-refuses : (c : Chip) (line : Line) → Refusal c (closed c line)
 unfolding Refusal closed opening
-closed-refuses c Malformed e = refl
+closed-refuses c Malformed e = (refl, refl)
 closed-refuses c (Open n) e = opening-cases c n (ltb 25 n) (eqb (opened n .reply .number) 0) e
-closed-refuses c (Plain call) e = refl
-closed-refuses c Look e = refl
-closed-refuses c Take e = refl
-closed-refuses c (Disc a byte) e = refl
+closed-refuses c (Plain call) e = (refl, refl)
+closed-refuses c Look e = (refl, refl)
+closed-refuses c Take e = (refl, refl)
+closed-refuses c (Disc a byte) e = (refl, refl)
+closed-refuses c (Scratch from count) e = (refl, refl)
+
+-- a refused line leaves what the next sector arrives with
+damage-stays : (d : Damage) (line : Line) (n : ℕ) → eqb n 0 ≡ false → damage-after d line n ≡ d
+unfolding damage-after
+damage-stays d line n e = if-false (eqb n 0) (damage-by d line) d e
 
 reply-closed : (b : Bench) (m s line : List ℕ) → b .opened ≡ false → reply b m s line .answer ≡ closed (b .chip) (parse line)
 unfolding answered
@@ -69,17 +77,18 @@ unfolding Refusal opened
 closed-claim b m s line k e =
     let q = reply-closed b m s line (k .0) in
     let a = reply b m s line .answer in
-    let r : a ≡ refused false (b .chip) (a .number)
-    = q ∙ closed-refuses (b .chip) (parse line) (sym (ap (λ (x : Answer). x .opened) q) ∙ e) ∙ ap (λ (x : Answer). refused false (b .chip) (x .number)) (sym q) in
+    let f = closed-refuses (b .chip) (parse line) (sym (ap (λ (x : Answer). x .opened) q) ∙ e) in
+    let r : a ≡ refused false (b .chip) (a .number) = q ∙ f .0 ∙ ap (λ (x : Answer). refused false (b .chip) (x .number)) (sym q) in
     let h : a .chip ≡ started .chip = ap (λ (x : Answer). x .chip) r ∙ k .1 in
-    ((e, h), ap (λ (x : Answer). shown x (bench.count b)) r ∙ ap (λ (c : Chip). shown (refused false c (a .number)) (bench.count b)) (k .1))
+    let d = damage-stays (b .damage) (parse line) (a .number) (ap (λ (x : Answer). eqb (x .number) 0) q ∙ f .1) ∙ k .2 in
+    ((e, h, d), ap (λ (x : Answer). shown x (bench.count b)) r ∙ ap (λ (c : Chip). shown (refused false c (a .number)) (bench.count b)) (k .1))
 
 -- the claim's premises are met: a bench that was started is closed, and an empty line does not open it
 pub closed-started : Closed started
-closed-started = (refl, refl)
+closed-started = (refl, refl, refl)
 
 pub closed-empty : (m s : List ℕ) → reply started m s [] .answer .opened ≡ false
-unfolding answered closed parse named several bare form onward
+unfolding answered closed parse named several disc-line bare form onward
 closed-empty m s = refl
 
 -- the number and the value of a word are those of its answer
@@ -92,13 +101,13 @@ word-out (Handed v) = refl
 word-out (Refused k) = refl
 
 -- a sector line in order, by the chip's number: the machine is given the sector that would be sealed, and answers by the same number
-module _ (c : Chip) (ring s : List ℕ) (a : Address) (byte : ℕ) (size : length s ≡ 2352) (low : byte ≤ 255) (v : valid a ≡ true) where
+module _ (c : Chip) (d : Damage) (ring s : List ℕ) (a : Address) (byte : ℕ) (size : length s ≡ 2352) (low : byte ≤ 255) (v : valid a ≡ true) where
   made : List ℕ
-  made = seal-sector (unsealed byte) a
+  made = scratched d (seal-sector (unsealed byte) a)
 
   made-size : length made ≡ 2352
   unfolding made unsealed
-  made-size = count a (unsealed byte) (simp length-append) v
+  made-size = length-scratched d (seal-sector (unsealed byte) a) (count a (unsealed byte) (simp length-append) v)
 
   its-number : disc-number c ring s a byte ≡ calls.sector-number c ring made
   unfolding calls.sector-number
@@ -121,11 +130,11 @@ module _ (c : Chip) (ring s : List ℕ) (a : Address) (byte : ℕ) (size : lengt
   as-stored true e = refl
   as-stored false e = sym (if-false (eqb (calls.sector-number c ring made) 0) _ _ e)
 
-  line-is : called c ring s (Disc a byte) ≡ by-number (calls.sector-number c ring made)
+  line-is : called c d ring s (Disc a byte) ≡ by-number (calls.sector-number c ring made)
   unfolding called disc by-number made
   line-is = ap by-number its-number
 
-  line-runs : Runs c ring s (Disc a byte) (sector (seal-sector (unsealed byte) a))
+  line-runs : Runs c d ring s (Disc a byte) (sector (scratched d (seal-sector (unsealed byte) a)))
   unfolding chip-answer chip-step by-number made
   line-runs =
       let told = ap (λ (x : Answered). x .answer) line-is ∙ as-told _ refl in
@@ -159,47 +168,59 @@ told-zero c ring x z =
 Kept : List ℕ → List ℕ → Answered → Type 0
 Kept m s a = (a .answer .number ≡ 0 → ⊥) → (a .memory ≡ m) × (a .sector ≡ s)
 
-disc-kept : (c : Chip) (ring s : List ℕ) (a : Address) (byte : ℕ) → Kept ring s (disc c ring s a byte)
+disc-kept : (c : Chip) (d : Damage) (ring s : List ℕ) (a : Address) (byte : ℕ) → Kept ring s (disc c d ring s a byte)
 unfolding Kept disc made
-disc-kept c ring s a byte =
-    if-case (Kept ring s) (eqb (disc-number c ring s a byte) 0) (brought c ring (seal-sector (unsealed byte) a)) (unchanged ring s (refused true c (disc-number c ring s a byte)))
+disc-kept c d ring s a byte =
+    if-case (Kept ring s) (eqb (disc-number c ring s a byte) 0) (brought c ring (scratched d (seal-sector (unsealed byte) a))) (unchanged ring s (refused true c (disc-number c ring s a byte)))
     (λ e k.
     let z = eqb-true _ _ e in
     let h = admitted c ring s a byte _ refl z in
-    absurd (k (told-zero c ring (seal-sector (unsealed byte) a) (sym (its-number c ring s a byte (h .0) (h .1 .0) (h .1 .1)) ∙ z))))
+    absurd (k (told-zero c ring (scratched d (seal-sector (unsealed byte) a)) (sym (its-number c d ring s a byte (h .0) (h .1 .0) (h .1 .1)) ∙ z))))
     (λ e k. (refl, refl))
 
-called-kept : (c : Chip) (ring s : List ℕ) (line : Line) → Kept ring s (called c ring s line)
+called-kept : (c : Chip) (d : Damage) (ring s : List ℕ) (line : Line) → Kept ring s (called c d ring s line)
 unfolding Kept called
-called-kept c ring s Malformed k = (refl, refl)
-called-kept c ring s (Open n) k = (refl, refl)
-called-kept c ring s (Plain call) k = (refl, refl)
-called-kept c ring s Look k = (refl, refl)
-called-kept c ring s Take k = (refl, refl)
-called-kept c ring s (Disc a byte) k = disc-kept c ring s a byte k
+called-kept c d ring s Malformed k = (refl, refl)
+called-kept c d ring s (Open n) k = (refl, refl)
+called-kept c d ring s (Plain call) k = (refl, refl)
+called-kept c d ring s Look k = (refl, refl)
+called-kept c d ring s Take k = (refl, refl)
+called-kept c d ring s (Disc a byte) k = disc-kept c d ring s a byte k
+called-kept c d ring s (Scratch from count) k = (refl, refl)
 
-pub refusal-claim : RefusalClaim
+bytes-kept : (b : Bench) (m s line : List ℕ) → Kept m s (reply b m s line)
 unfolding Kept answered
-refusal-claim b m s line =
+bytes-kept b m s line =
     let ring = take (size (b .chip)) m in
     let rest = drop (size (b .chip)) m in
-    if-case (Kept m s) (not (b .opened)) (unchanged m s (closed (b .chip) (parse line))) (with-rest (called (b .chip) ring s (parse line)) rest)
+    if-case (Kept m s) (not (b .opened)) (unchanged m s (closed (b .chip) (parse line))) (with-rest (called (b .chip) (b .damage) ring s (parse line)) rest)
     (λ e k. (refl, refl))
     (λ e k.
-    let h = called-kept (b .chip) ring s (parse line) k in
+    let h = called-kept (b .chip) (b .damage) ring s (parse line) k in
     (ap (λ (l : List ℕ). l ++ rest) (h .0) ∙ take-append-drop (size (b .chip)) m, h .1))
+
+pub refusal-claim : RefusalClaim
+unfolding Kept
+refusal-claim b m s line k =
+    let h = bytes-kept b m s line k in
+    (h .0, h .1, damage-stays (b .damage) (parse line) (reply b m s line .answer .number) (ne-eqb _ _ k))
 
 -- the claim's premise is met: an empty line is refused
 pub refused-empty : (m s : List ℕ) → reply started m s [] .answer .number ≡ 2
-unfolding answered closed parse named several bare form onward
+unfolding answered closed parse named several disc-line bare form onward
 refused-empty m s = refl
+
+scratch-keeps : (c : Chip) (from count : ℕ) → scratching c from count .chip ≡ c
+unfolding scratching
+scratch-keeps c from count = if-case (λ (x : Answer). x .chip ≡ c) (inside from count) _ _ (λ _. refl) (λ _. refl)
 
 pub machine-claim : MachineClaim
 unfolding called word chip-answer chip-step
 machine-claim = record {
-  plain-runs = λ c ring s call. record { number-is = refl; out-is = refl; chip-is = refl; ring-is = refl };
-  look-runs = λ c ring s. record { number-is = refl; out-is = refl; chip-is = refl; ring-is = refl };
-  word-runs = λ c ring s.
+  plain-runs = λ c d ring s call. record { number-is = refl; out-is = refl; chip-is = refl; ring-is = refl };
+  look-runs = λ c d ring s. record { number-is = refl; out-is = refl; chip-is = refl; ring-is = refl };
+  word-runs = λ c d ring s.
       record { number-is = word-number (calls.word-told c ring .word); out-is = word-out (calls.word-told c ring .word); chip-is = refl; ring-is = refl };
   sector-runs = line-runs;
+  scratch-runs = λ c d ring s from count. (scratch-keeps c from count, refl);
 }

@@ -7,6 +7,7 @@ use lib.ListN.{length, take, drop, replicate}
 use Rattle.laws.specs.Choice.{if_then_else_}
 use Rattle.sector.specs.Address.{valid}
 use Rattle.sector.specs.Calls.{seal-sector}
+use Rattle.sector.specs.Judge.{why}
 use Rattle.sector.specs.declared.Address.{Address}
 use Rattle.chip.specs.Chip.{opened}
 use Rattle.chip.specs.Calls as calls
@@ -14,8 +15,10 @@ use Rattle.chip.specs.declared.Chip.{Chip}
 use Rattle.chip.specs.declared.Told.{Told}
 use Rattle.chip.specs.declared.Word.{Word}
 use Rattle.syntax.specs.declared.line.Line.{Line}
-use Rattle.syntax.specs.declared.line.Line.the-variants.{Malformed, Open, Plain, Look, Take, Disc}
+use Rattle.syntax.specs.declared.line.Line.the-variants.{Malformed, Open, Plain, Look, Take, Disc, Scratch}
+use Rattle.script.specs.Damage.{inside, scratched}
 use Rattle.script.specs.declared.call.Answer.{Answer}
+use Rattle.script.specs.declared.disc.Damage.{Damage}
 use Rattle.syntax.specs.declared.print.Shown.{Shown}
 
 -- a refusal: its number, out 0, and the chip there was
@@ -78,20 +81,27 @@ disc-number c ring s a byte =
 abbrev pub brought : Chip → List ℕ → List ℕ → Answered
 brought c ring s = record { answer = of-told (calls.sector-told c ring s); memory = calls.sector-ring c ring s; sector = s }
 
--- a sector line: the sector is sealed in the buffer and brought, and a refusal leaves memory and buffer as they were
-unfoldable pub disc : Chip → List ℕ → List ℕ → Address → ℕ → Answered
-disc c ring s a byte =
-    if eqb (disc-number c ring s a byte) 0 then brought c ring (seal-sector (unsealed byte) a)
+-- a sector line: the sector is sealed in the buffer, damaged on its way and brought, and a refusal leaves memory and buffer as they were
+unfoldable pub disc : Chip → Damage → List ℕ → List ℕ → Address → ℕ → Answered
+disc c d ring s a byte =
+    if eqb (disc-number c ring s a byte) 0 then brought c ring (scratched d (seal-sector (unsealed byte) a))
     else unchanged ring s (refused true c (disc-number c ring s a byte))
 
+-- a scratch line: 3 for one that is not inside a sector
+unfoldable pub scratching : Chip → ℕ → ℕ → Answer
+scratching c from count =
+    if inside from count then record { opened = true; chip = c; number = 0; out = 0 }
+    else refused true c 3
+
 -- the calls of an open chip: only an accepted sector changes the ring and the buffer
-unfoldable pub called : Chip → List ℕ → List ℕ → Line → Answered
-called c ring s Malformed = unchanged ring s (refused true c 2)
-called c ring s (Open n) = unchanged ring s (opening true c n)
-called c ring s (Plain call) = unchanged ring s (of-told (calls.called c call))
-called c ring s Look = unchanged ring s (look c ring)
-called c ring s Take = unchanged ring s (word c ring)
-called c ring s (Disc a byte) = disc c ring s a byte
+unfoldable pub called : Chip → Damage → List ℕ → List ℕ → Line → Answered
+called c d ring s Malformed = unchanged ring s (refused true c 2)
+called c d ring s (Open n) = unchanged ring s (opening true c n)
+called c d ring s (Plain call) = unchanged ring s (of-told (calls.called c call))
+called c d ring s Look = unchanged ring s (look c ring)
+called c d ring s Take = unchanged ring s (word c ring)
+called c d ring s (Disc a byte) = disc c d ring s a byte
+called c d ring s (Scratch from count) = unchanged ring s (scratching c from count)
 
 -- before an accepted opening every other call is 5
 unfoldable pub closed : Chip → Line → Answer
@@ -101,6 +111,7 @@ closed c (Plain call) = refused false c 5
 closed c Look = refused false c 5
 closed c Take = refused false c 5
 closed c (Disc a byte) = refused false c 5
+closed c (Scratch from count) = refused false c 5
 
 -- the ring of the open chip is the start of the lent memory, as long as its N blocks
 abbrev pub size : Chip → ℕ
@@ -111,12 +122,12 @@ abbrev pub with-rest : Answered → List ℕ → Answered
 with-rest a rest = record { answer = a .answer; memory = a .memory ++ rest; sector = a .sector }
 
 -- with no chip open, and with one
-unfoldable pub answered : Bool → Chip → List ℕ → List ℕ → Line → Answered
-answered o c m s line =
+unfoldable pub answered : Bool → Chip → Damage → List ℕ → List ℕ → Line → Answered
+answered o c d m s line =
     if not o then unchanged m s (closed c line)
-    else with-rest (called c (take (size c) m) s line) (drop (size c) m)
+    else with-rest (called c d (take (size c) m) s line) (drop (size c) m)
 
--- what the printed line shows: the answer, and the counters and the interrupt after the call
+-- what the printed line shows: the answer, and after the call the counters, what failed of the last stored sector, and the interrupt
 abbrev pub shown : Answer → ℕ → Shown
 shown a n =
     record {
@@ -125,5 +136,6 @@ shown a n =
       out = a .out;
       tcc = a .chip .controller .counts .tcc;
       bufc = a .chip .controller .counts .bufc;
+      why = why (a .chip .controller .judgement);
       irq = a .chip .controller .hirq;
     }

@@ -14,32 +14,34 @@ use Rattle.outcomes.specs.Machine.{Call, plain, sector, look, word, Answer, rep
 use Rattle.chip.specs.Machine.{over, chip-answer, chip-step}
 use Rattle.chip.specs.declared.Chip.{Chip}
 use Rattle.syntax.specs.declared.line.Line.{Line}
-use Rattle.syntax.specs.declared.line.Line.the-variants.{Plain, Look, Take, Disc}
+use Rattle.syntax.specs.declared.line.Line.the-variants.{Plain, Look, Take, Disc, Scratch}
 use Rattle.syntax.specs.declared.print.Shown.{Shown}
 use Rattle.script.specs.Answers.{unsealed, called, shown}
-use Rattle.script.specs.Bench.{started, reply, count, after}
+use Rattle.script.specs.Bench.{started, reply, damaged, count, after}
+use Rattle.script.specs.Damage.{undamaged, scratched}
 use Rattle.script.specs.declared.Bench.{Bench}
+use Rattle.script.specs.declared.disc.Damage.{Damage}
 
--- no chip is open, and the record is that of the start
+-- no chip is open, the record is that of the start, and the next sector arrives undamaged
 abbrev pub Closed : Bench → Type 0
-Closed b = (b .opened ≡ false) × (b .chip ≡ started .chip)
+Closed b = (b .opened ≡ false) × (b .chip ≡ started .chip) × (b .damage ≡ undamaged)
 
 -- a line with a number and zeros
 abbrev pub zeros : ℕ → ℕ → Shown
-zeros n number = record { lines = n; number = number; out = 0; tcc = 0; bufc = 0; irq = false }
+zeros n number = record { lines = n; number = number; out = 0; tcc = 0; bufc = 0; why = 0; irq = false }
 
 -- a line that does not open a chip leaves the bench closed, and shows zeros behind its number
 abbrev pub ClosedClaim : Type 0
 ClosedClaim =
     (b : Bench) (m s line : List ℕ) → Closed b → reply b m s line .answer .opened ≡ false
-    → Closed (after (reply b m s line .answer) (count b))
+    → Closed (after (reply b m s line .answer) (damaged b line (reply b m s line .answer .number)) (count b))
     × (shown (reply b m s line .answer) (count b) ≡ zeros (count b) (reply b m s line .answer .number))
 
--- a refused line changes no byte, of the memory or of the sector buffer
+-- a refused line changes no byte, of the memory or of the sector buffer, nor what the next sector arrives with
 abbrev pub RefusalClaim : Type 0
 RefusalClaim =
     (b : Bench) (m s line : List ℕ) → (reply b m s line .answer .number ≡ 0 → ⊥)
-    → (reply b m s line .memory ≡ m) × (reply b m s line .sector ≡ s)
+    → (reply b m s line .memory ≡ m) × (reply b m s line .sector ≡ s) × (damaged b line (reply b m s line .answer .number) ≡ b .damage)
 
 -- what is printed of an answer as `out`
 abbrev pub out-of : Answer → ℕ
@@ -49,17 +51,20 @@ out-of (refused n) = 0
 out-of (seen bytes) = length bytes
 
 -- a line of the bench answers as the machine does to a call, and leaves the chip and the ring that the machine leaves
-pub record Runs (c : Chip) (ring s : List ℕ) (line : Line) (call : Call) : Type 0 where
-  pub number-is : called c ring s line .answer .number ≡ number (chip-answer call (over c ring))
-  pub out-is : called c ring s line .answer .out ≡ out-of (chip-answer call (over c ring))
-  pub chip-is : called c ring s line .answer .chip ≡ chip-step call (over c ring) .chip
-  pub ring-is : called c ring s line .memory ≡ chip-step call (over c ring) .ring
+pub record Runs (c : Chip) (d : Damage) (ring s : List ℕ) (line : Line) (call : Call) : Type 0 where
+  pub number-is : called c d ring s line .answer .number ≡ number (chip-answer call (over c ring))
+  pub out-is : called c d ring s line .answer .out ≡ out-of (chip-answer call (over c ring))
+  pub chip-is : called c d ring s line .answer .chip ≡ chip-step call (over c ring) .chip
+  pub ring-is : called c d ring s line .memory ≡ chip-step call (over c ring) .ring
 
 pub record MachineClaim : Type 0 where
-  pub plain-runs : (c : Chip) (ring s : List ℕ) (call : Lent-nothing) → Runs c ring s (Plain call) (plain call)
-  pub look-runs : (c : Chip) (ring s : List ℕ) → Runs c ring s Look look
-  pub word-runs : (c : Chip) (ring s : List ℕ) → Runs c ring s Take word
+  pub plain-runs : (c : Chip) (d : Damage) (ring s : List ℕ) (call : Lent-nothing) → Runs c d ring s (Plain call) (plain call)
+  pub look-runs : (c : Chip) (d : Damage) (ring s : List ℕ) → Runs c d ring s Look look
+  pub word-runs : (c : Chip) (d : Damage) (ring s : List ℕ) → Runs c d ring s Take word
   -- a sector line whose buffer, fill and address are as they should be: the chip's refusals are the machine's too
-  pub sector-runs : (c : Chip) (ring s : List ℕ) (a : Address) (byte : ℕ)
+  pub sector-runs : (c : Chip) (d : Damage) (ring s : List ℕ) (a : Address) (byte : ℕ)
       → length s ≡ 2352 → byte ≤ 255 → valid a ≡ true
-      → Runs c ring s (Disc a byte) (sector (seal-sector (unsealed byte) a))
+      → Runs c d ring s (Disc a byte) (sector (scratched d (seal-sector (unsealed byte) a)))
+  -- a scratch line is none of the machine's: it leaves chip and ring as they are
+  pub scratch-runs : (c : Chip) (d : Damage) (ring s : List ℕ) (from count : ℕ)
+      → (called c d ring s (Scratch from count) .answer .chip ≡ c) × (called c d ring s (Scratch from count) .memory ≡ ring)

@@ -7,8 +7,9 @@ use lib.ListN.{length}
 use Rattle.laws.specs.Choice.{if_then_else_}
 use Rattle.syntax.specs.Print.{room, over}
 use Rattle.script.specs.Answers.{Answered}
-use Rattle.script.specs.Bench.{Left, reply, count, text, after}
+use Rattle.script.specs.Bench.{Left, reply, damaged, count, text, after}
 use Rattle.script.specs.declared.Bench.{Bench}
+use Rattle.script.specs.declared.disc.Damage.{Damage}
 use Rattle.script.specs.declared.lines.Fed.{Fed}
 
 -- what lines leave: the bench, the ring's memory, the sector buffer, all that was printed, and how many bytes of the text they took
@@ -24,10 +25,10 @@ abbrev pub begun : Bench → List ℕ → List ℕ → Progress
 begun b m s = record { bench = b; memory = m; sector = s; printed = []; taken = 0 }
 
 -- one line more: its answer, and the bytes that it took with its end
-abbrev pub with-answer : Progress → Answered → ℕ → Progress
-with-answer d a size =
+abbrev pub with-answer : Progress → Answered → Damage → ℕ → Progress
+with-answer d a damage size =
     record {
-      bench = after (a .answer) (count (d .bench));
+      bench = after (a .answer) damage (count (d .bench));
       memory = a .memory;
       sector = a .sector;
       printed = d .printed ++ text (a .answer) (count (d .bench));
@@ -35,7 +36,9 @@ with-answer d a size =
     }
 
 abbrev pub with-line : Progress → List ℕ → Progress
-with-line d line = with-answer d (reply (d .bench) (d .memory) (d .sector) line) (length line + 1)
+with-line d line =
+    let a = reply (d .bench) (d .memory) (d .sector) line in
+    with-answer d a (damaged (d .bench) line (a .answer .number)) (length line + 1)
 
 -- every line that has an end, in order, while there is room for its answer in so many bytes; `line` is what has come of the present one
 unfoldable pub fed : ℕ → Progress → List ℕ → List ℕ → Progress

@@ -1,4 +1,7 @@
 // What the bench answers to a call: the chip's answer, with the host word and the look as numbers.
+use crate::disc::Damage;
+use crate::disc::inside;
+use crate::disc::scratch;
 use crate::fill::unsealed;
 use chip::Chip;
 use chip::Told;
@@ -8,7 +11,7 @@ use sector::Address;
 use syntax::line::Line;
 use syntax::print::Shown;
 ghost use mathlib.Core.Path.{_≡_};
-ghost use Rattle.script.specs.Answers.{refused, of-told, opening, word, word-refused, look, disc-number, disc, called, closed, answered, shown};
+ghost use Rattle.script.specs.Answers.{refused, of-told, opening, word, word-refused, look, disc-number, disc, scratching, called, closed, answered, shown};
 
 // Whether a chip is open, the chip, the reply number and the result that is printed.
 pub struct Answer {
@@ -18,19 +21,21 @@ pub struct Answer {
     pub out: u64,
 }
 
-// What the printed line shows: the answer, and the counters and the interrupt after the call.
+// What the printed line shows: the answer, and after the call the counters, what failed of the last stored sector, and the interrupt.
 pub(crate) fn shown(answer: Answer, lines: u64) -> Shown
     ensures { λ r. ⌜ r ≡ shown answer lines ⌝ }
 {
     let chip = answer.chip;
     let controller = chip.controller;
     let counts = controller.counts;
+    let judgement = controller.judgement;
     Shown {
         lines: lines,
         number: answer.number,
         out: answer.out,
         tcc: counts.tcc,
         bufc: counts.bufc,
+        why: judgement.why(),
         irq: controller.hirq,
     }
 }
@@ -133,10 +138,17 @@ fn disc_number(chip: Chip, ring: &[u8], sector: &[u8], address: Address, byte: u
     chip.sector_number(ring, sector)
 }
 
-// A sector sealed at the address, every user byte equal to the fill and every parity byte 0.
-fn disc(chip: Chip, ring: &mut [u8], sector: &mut [u8], address: Address, byte: u16) -> Answer
+// A sector sealed at the address, every user byte equal to the fill and every parity byte 0, as it arrives.
+fn disc(
+    chip: Chip,
+    damage: Damage,
+    ring: &mut [u8],
+    sector: &mut [u8],
+    address: Address,
+    byte: u16,
+) -> Answer
     ensures { λ r. ⌜ record { answer = r; memory = now (ring .exit); sector = now (sector .exit) }
-        ≡ disc chip (now (ring .entry)) (now (sector .entry)) address byte ⌝ }
+        ≡ disc chip damage (now (ring .entry)) (now (sector .entry)) address byte ⌝ }
 {
     let number = disc_number(chip, ring, sector, address, byte);
     if number != 0 {
@@ -144,13 +156,29 @@ fn disc(chip: Chip, ring: &mut [u8], sector: &mut [u8], address: Address, byte: 
     }
     unsealed(sector, byte as u8);
     sector::seal(sector, address);
+    scratch(sector, damage);
     told(chip.sector(ring, sector))
 }
 
+// What the next sector arrives with is said, or refused.
+fn scratching(chip: Chip, from: u16, count: u16) -> Answer
+    ensures { λ r. ⌜ r ≡ scratching chip from count ⌝ }
+{
+    if !inside(from, count) {
+        return refused(true, chip, 3);
+    }
+    Answer {
+        opened: true,
+        chip: chip,
+        number: 0,
+        out: 0,
+    }
+}
+
 // The calls of an open chip.
-fn called(chip: Chip, ring: &mut [u8], sector: &mut [u8], line: Line) -> Answer
+fn called(chip: Chip, damage: Damage, ring: &mut [u8], sector: &mut [u8], line: Line) -> Answer
     ensures { λ r. ⌜ record { answer = r; memory = now (ring .exit); sector = now (sector .exit) }
-        ≡ called chip (now (ring .entry)) (now (sector .entry)) line ⌝ }
+        ≡ called chip damage (now (ring .entry)) (now (sector .entry)) line ⌝ }
 {
     match line {
         Line::Malformed => refused(true, chip, 2),
@@ -158,7 +186,8 @@ fn called(chip: Chip, ring: &mut [u8], sector: &mut [u8], line: Line) -> Answer
         Line::Plain(call) => told(chip.call(call)),
         Line::Look => look(chip, ring),
         Line::Take => host_word(chip, ring),
-        Line::Disc(address, byte) => disc(chip, ring, sector, address, byte),
+        Line::Disc(address, byte) => disc(chip, damage, ring, sector, address, byte),
+        Line::Scratch(from, count) => scratching(chip, from, count),
     }
 }
 
@@ -173,6 +202,7 @@ fn closed(chip: Chip, line: Line) -> Answer
         Line::Look => refused(false, chip, 5),
         Line::Take => refused(false, chip, 5),
         Line::Disc(_, _) => refused(false, chip, 5),
+        Line::Scratch(_, _) => refused(false, chip, 5),
     }
 }
 
@@ -180,17 +210,18 @@ fn closed(chip: Chip, line: Line) -> Answer
 pub(crate) fn run(
     opened: bool,
     chip: Chip,
+    damage: Damage,
     memory: &mut [u8],
     sector: &mut [u8],
     line: Line,
 ) -> Answer
     ensures { λ r. ⌜ record { answer = r; memory = now (memory .exit); sector = now (sector .exit) }
-        ≡ answered opened chip (now (memory .entry)) (now (sector .entry)) line ⌝ }
+        ≡ answered opened chip damage (now (memory .entry)) (now (sector .entry)) line ⌝ }
 {
     if !opened {
         return closed(chip, line);
     }
     let place = chip.place;
     let size = least_length(place.n as usize * 2560, memory.len());
-    called(chip, &mut memory[..size], sector, line)
+    called(chip, damage, &mut memory[..size], sector, line)
 }

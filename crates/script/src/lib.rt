@@ -1,10 +1,12 @@
 // The bench: a line of input, given to the chip that is open, and the line that is printed; and the lines of a text, one after the other
 // (paper 01, "Bench cases").
 mod call;
+mod disc;
 mod fill;
 mod lines;
 
 use chip::Chip;
+pub use disc::Damage;
 pub use lines::Fed;
 pub use lines::feed;
 pub use syntax::print::ROOM;
@@ -13,10 +15,11 @@ ghost use mathlib.Core.Path.{_≡_};
 ghost use Rattle.script.specs.Bench.{started, ran};
 ghost use Rattle.syntax.specs.Print.{longest};
 
-// Whether a chip is open, the chip, and how many lines there have been.
+// Whether a chip is open, the chip, what the next sector arrives with, and how many lines there have been.
 pub struct Bench {
     pub opened: bool,
     pub chip: Chip,
+    pub damage: Damage,
     pub lines: u64,
 }
 
@@ -37,6 +40,7 @@ impl Bench {
         Bench {
             opened: false,
             chip: chip,
+            damage: Damage { from: 0, count: 0 },
             lines: 0,
         }
     }
@@ -57,7 +61,9 @@ impl Bench {
         }
         let parsed = syntax::line::parse(line);
         let chip = self.chip;
-        let answer = call::run(self.opened, chip, memory, sector, parsed);
+        let damage = self.damage;
+        let answer = call::run(self.opened, chip, damage, memory, sector, parsed);
+        let left = disc::damage_after(damage, parsed, answer.number);
         let n = std::num::wrapping_add_u64(self.lines, 1);
         let size = syntax::print::print(out, call::shown(answer, n));
         let next = answer.chip;
@@ -65,6 +71,7 @@ impl Bench {
             bench: Bench {
                 opened: answer.opened,
                 chip: next,
+                damage: left,
                 lines: n,
             },
             size: size,

@@ -1,40 +1,36 @@
 -- The cases of what the calls answer, as the code's returns have them, and what holds of an accepted call. Assumes nothing.
-use mathlib.Core.Path.{_≡_, refl, sym, ap, ap₂, _∙_}
-use mathlib.Core.Bool.{Bool, true, false, not, _&&_}
+use mathlib.Core.Path.{_≡_, refl, ap, _∙_}
+use mathlib.Core.Bool.{Bool, true, false, not}
 use mathlib.Core.List.{List}
 use Prim.Native.Nat.{ℕ}
 use lib.ListN.{length}
 use lib.Dec.{eqb}
 use native.Mathlib.Omega.{arith}
-use borrow.Author.Tests.{eq-eqb, ne-eqb, eqb-true, eqb-false, not-false}
-use Rattle.laws.proofs.Choice.{right-true, right-false}
+use borrow.Author.Tests.{eq-eqb, ne-eqb, eqb-true, eqb-false}
 use Rattle.reply.specs.Reply.{refusal, answer}
 use Rattle.scramble.specs.Scramble.{scrambled}
 use Rattle.sector.specs.declared.Address.{Address}
+use Rattle.sector.specs.declared.Judgement.{Judgement}
 use Rattle.sector.specs.declared.Judged.{Judged}
 use Rattle.sector.specs.Address.{valid}
 use Rattle.sector.specs.Sector.{framed, sealed}
-use Rattle.sector.specs.Judge.{sync-holds, mode-holds, edc-holds, address-holds, staerr, judgement}
+use Rattle.sector.specs.Judge.{sync-holds, mode-holds, edc-holds, address-holds, judgement}
 use Rattle.sector.specs.Calls.{seal-reply, seal-sector, open-reply, open-sector, refused, judge-answer}
 
--- ---- the reading of the tests of STAERR, one after the other, and of the two bits
+-- ---- the four facts from their tests
 
-module _ (s : List ℕ) where
-  pub no-sync : (b : Bool) → b ≡ sync-holds s → b ≡ false → true ≡ staerr s
-  unfolding staerr
-  no-sync b e f = simp (sym e ∙ f)
+pub four-facts : (a : Address) (s : List ℕ) {b c d e : Bool} → b ≡ sync-holds s → c ≡ mode-holds s → d ≡ edc-holds s → e ≡ address-holds a s
+    → record { sync = not b; mode = not c; edc = not d; address = not e } ≡ judgement a s
+unfolding judgement
+four-facts a s eb ec ed ee = simp (eb, ec, ed, ee)
 
-  pub no-mode : (b c : Bool) → b ≡ sync-holds s → b ≡ true → c ≡ mode-holds s → c ≡ false → true ≡ staerr s
-  unfolding staerr
-  no-mode b c e t e′ f = simp (sym e ∙ t, sym e′ ∙ f)
-
-  pub by-edc : (b c d : Bool) → b ≡ sync-holds s → b ≡ true → c ≡ mode-holds s → c ≡ true → d ≡ edc-holds s → not d ≡ staerr s
-  unfolding staerr
-  by-edc b c d e t e′ t′ e″ = ap not e″ ∙ simp (sym e ∙ t, sym e′ ∙ t′)
-
-  pub two-bits : (a : Address) (e h : Bool) → e ≡ staerr s → h ≡ address-holds a s → record { staerr = e; hcei = not h } ≡ judgement a s
-  unfolding judgement
-  two-bits a e h ee eh = ap₂ (λ (x y : Bool). record { staerr = x; hcei = not y }) ee eh
+-- a judgement is its four facts
+pub same-facts : (i j : Judgement) → i .sync ≡ j .sync → i .mode ≡ j .mode → i .edc ≡ j .edc → i .address ≡ j .address → i ≡ j
+same-facts i j s m e a =
+    ap (λ (x : Bool). record { sync = x; mode = i .mode; edc = i .edc; address = i .address }) s
+    ∙ ap (λ (x : Bool). record { sync = j .sync; mode = x; edc = i .edc; address = i .address }) m
+    ∙ ap (λ (x : Bool). record { sync = j .sync; mode = j .mode; edc = x; address = i .address }) e
+    ∙ ap (λ (x : Bool). record { sync = j .sync; mode = j .mode; edc = j .edc; address = x }) a
 
 -- ---- a sector of another length is refused
 
@@ -88,18 +84,8 @@ accepted s a h = by-length (eqb (length s) 2352) refl
     by-length false e =
         absurd (let z : 1 ≡ 0 = ap (λ (j : Judged). j .number) (judge-short s a (eqb-false (length s) 2352 e)) ∙ h in let w : ⊥ = omega arith in w)
 
-pub judged-staerr : (s : List ℕ) (a : Address) → length s ≡ 2352 → valid a ≡ true → judge-answer s a .judgement .staerr ≡ staerr s
-unfolding judgement
-judged-staerr s a full v = sym (ap (λ (j : Judged). j .judgement .staerr) (judge-done s a full v))
-
--- STAERR follows from the code alone
-pub edc-of : (s : List ℕ) → staerr s ≡ false → edc-holds s ≡ true
-unfolding staerr
-edc-of s h =
-    right-true (mode-holds s) (edc-holds s)
-    (right-true (sync-holds s) (mode-holds s && edc-holds s) (not-false (sync-holds s && (mode-holds s && edc-holds s)) h))
-
-pub edc-fails : (s : List ℕ) → edc-holds s ≡ false → staerr s ≡ true
-unfolding staerr
-edc-fails s h =
-    ap not (right-false (sync-holds s) (mode-holds s && edc-holds s) (right-false (mode-holds s) (edc-holds s) h))
+-- the facts of a judging that is answered 0
+pub judged-facts : (s : List ℕ) (a : Address) (j : Judgement) → judge-answer s a ≡ record { number = 0; judgement = j } → judgement a s ≡ j
+judged-facts s a j h =
+    let ok = accepted s a (ap (λ (x : Judged). x .number) h) in
+    ap (λ (x : Judged). x .judgement) (judge-done s a (ok .0) (ok .1) ∙ h)

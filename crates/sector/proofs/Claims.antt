@@ -5,15 +5,13 @@ use mathlib.Core.List.{List}
 use Prim.Native.Nat.{ℕ}
 use native.Mathlib.Omega.{arith}
 use lib.ListN.{length, replicate, length-replicate}
-use Rattle.laws.specs.Bytes.{Bytes}
-use Rattle.laws.proofs.Bytes.{bytes-replicate}
 use Rattle.sector.specs.declared.Address.{Address}
 use Rattle.sector.specs.Address.{valid}
-use Rattle.sector.specs.Calls.{seal-sector, open-sector}
-use Rattle.sector.specs.Claims.{SealClaim, DamageClaim, NextClaim, MetClaim}
+use Rattle.sector.specs.Claims.{SealClaim, ChangeClaim, DamageClaim, FactsClaim, IndependentClaim, NextClaim, MetClaim}
 use Rattle.sector.proofs.Addresses.{next-valid}
-use Rattle.sector.proofs.Sealed.{count, bytes, user-back, address-back, own, other, again, bytes-opened}
-use Rattle.sector.proofs.Damage.{damage}
+use Rattle.sector.proofs.Sealed.{count, bytes, user-back, address-back, own, other, again}
+use Rattle.sector.proofs.Damage.{changed, damage}
+use Rattle.sector.proofs.Facts.{facts, independent}
 
 pub seal-holds : SealClaim
 seal-holds s a full v = record {
@@ -26,8 +24,17 @@ seal-holds s a full v = record {
   again = again a s full v;
 }
 
+pub change-holds : ChangeClaim
+change-holds = changed
+
 pub damage-holds : DamageClaim
 damage-holds = damage
+
+pub facts-hold : FactsClaim
+facts-hold = facts
+
+pub independent-holds : IndependentClaim
+independent-holds = independent
 
 pub next-holds : NextClaim
 next-holds = next-valid
@@ -58,20 +65,13 @@ not-start : after ≡ start → ⊥
 unfolding start after
 not-start e = let z : _≡_ {A = ℕ} 1 0 = ap (λ (a : Address). a .frame) e in omega arith
 
-zeros-bytes : Bytes zeros
-unfolding zeros
-zeros-bytes = bytes-replicate 2352 0 (omega arith)
-
 pub premises-met : MetClaim
 premises-met = record {
   buffer = zeros;
   address = start;
-  elsewhere = after;
+  other = after;
   whole = zeros-long;
   in-range = start-valid;
   in-range-too = after-valid;
   apart = not-start;
-  good = open-sector (seal-sector zeros start);
-  bytes = bytes-opened start zeros zeros-long start-valid zeros-bytes;
-  judged = own start zeros zeros-long start-valid;
 }

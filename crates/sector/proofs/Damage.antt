@@ -1,62 +1,149 @@
--- One changed byte of a good sector, from sync to EDC, is found by the code: DamageClaim. Assumes nothing.
+-- One changed byte: which facts it moves in any sector, and that in a good one it sets just those of its place: ChangeClaim, DamageClaim.
+-- Assumes nothing.
 use mathlib.Core.Path.{_≡_, refl, sym, ap, _∙_}
-use mathlib.Core.Bool.{Bool, true, false}
+use mathlib.Core.Bool.{Bool, true, false, not, _&&_}
 use mathlib.Core.List.{List}
-use Prim.Native.Nat.{ℕ, _+_, _-_, _<_, _≤_}
+use mathlib.Core.Logic.{_⊎_, inl, inr, ⊎-elim}
+use Prim.Native.Nat.{ℕ, _<_, _≤_}
 use native.Mathlib.Omega.{arith}
-use lib.Dec.{ltb}
-use borrow.Author.Tests.{ltb-true, ltb-false}
+use lib.Dec.{eqb, leb, ltb}
+use borrow.Author.Tests.{eq-eqb, ne-eqb, eqb-true, eqb-false, leb-true, leb-false, ltb-true, ltb-false, not-false}
 use lib.ListN.{length, take, drop, getD, set, length-set}
-use lib.Seq.{length-take-le, take-set-le, take-set-lt, drop-set-lt, getD-take, getD-drop, getD-set-same}
+use lib.Seq.{length-take-le, take-set-le, take-set-lt, drop-set-lt, getD-take, getD-set-same, getD-set-other}
 use Rattle.laws.specs.Bytes.{Bytes}
+use Rattle.laws.specs.Same.{same}
 use Rattle.laws.proofs.Bytes.{bytes-take}
+use Rattle.laws.proofs.Changed.{window-away, window-differs, same-away, same-fails}
 use Rattle.laws.proofs.Same.{same-is, not-same}
+use Rattle.laws.proofs.Wrap.{lt-or-ge}
 use Rattle.edc.specs.Edc.{edc}
 use Rattle.edc.proofs.Laws.{edc-lt}
 use Rattle.edc.proofs.Change.{edc-set}
+use Rattle.sector.specs.declared.Address.{Address}
+use Rattle.sector.specs.declared.Judgement.{Judgement}
 use Rattle.sector.specs.declared.Judged.{Judged}
-use Rattle.sector.specs.Sector.{low4}
-use Rattle.sector.specs.Judge.{edc-holds, staerr}
-use Rattle.sector.specs.Claims.{DamageClaim}
+use Rattle.sector.specs.Address.{address-bytes}
+use Rattle.sector.specs.Sector.{sync, low4}
+use Rattle.sector.specs.Judge.{sync-holds, mode-holds, edc-holds, address-holds, judgement}
+use Rattle.sector.specs.Claims.{Changed, ChangeClaim, damaged, DamageClaim}
 use Rattle.sector.proofs.Frames.{low4-tells}
-use Rattle.sector.proofs.Answers.{accepted, judged-staerr, edc-of, edc-fails}
+use Rattle.sector.proofs.Answers.{same-facts, accepted, judge-done, judged-facts}
 
-module _ (s : List ℕ) (k v : ℕ) (full : length s ≡ 2352) (hs : Bytes s) (hv : v < 256) (new : v ≡ getD s k 0 → ⊥)
-    (good : take 4 (drop 2064 s) ≡ low4 (edc 0 (take 2064 s)))
-    (stays : take 4 (drop 2064 (set s k v)) ≡ low4 (edc 0 (take 2064 (set s k v)))) where
+-- The EDC: what it is taken over and where it stands are one stretch
+
+-- the code of a sector, as it stands and as it is worked out
+abbrev stored : List ℕ → List ℕ
+stored s = take 4 (drop 2064 s)
+
+abbrev worked-out : List ℕ → List ℕ
+worked-out s = low4 (edc 0 (take 2064 s))
+
+module _ (s : List ℕ) (k v : ℕ) (full : length s ≡ 2352) (hs : Bytes s) (hv : v < 256) (new : v ≡ getD s k 0 → ⊥) (held : stored s ≡ worked-out s)
+    (stays : stored (set s k v) ≡ worked-out (set s k v)) where
   -- a byte that the code is taken over: the code changes
   in-body : k < 2064 → ⊥
   in-body h =
       let l = take 2064 s in
       let long = length-take-le 2064 s (omega arith) in
       let codes : low4 (edc 0 (set l k v)) ≡ low4 (edc 0 l) =
-      ap (λ (x : List ℕ). low4 (edc 0 x)) (sym (take-set-lt 2064 s k v h)) ∙ sym stays ∙ ap (take 4) (drop-set-lt 2064 s k v h) ∙ good in
+      ap (λ (x : List ℕ). low4 (edc 0 x)) (sym (take-set-lt 2064 s k v h)) ∙ sym stays ∙ window-away 2064 4 k v s (inl h) ∙ held in
       edc-set l k v (bytes-take 2064 s hs) (omega arith) hv (λ (e : v ≡ getD l k 0). new (e ∙ getD-take 2064 s k 0 h))
       (low4-tells (edc 0 (set l k v)) (edc 0 l) (edc-lt (set l k v)) (edc-lt l) codes)
 
   -- a byte of the stored code: the code does not change
   in-code : 2064 ≤ k → k < 2068 → ⊥
   in-code lo hi =
-      let place : 2064 + (k - 2064) ≡ k = omega arith in
-      let four : (x : List ℕ) → getD (take 4 (drop 2064 x)) (k - 2064) 0 ≡ getD x k 0 = λ (x : List ℕ).
-      getD-take 4 (drop 2064 x) (k - 2064) 0 (omega arith) ∙ getD-drop 2064 x (k - 2064) 0 ∙ ap (λ (n : ℕ). getD x n 0) place in
-      let parts : take 4 (drop 2064 (set s k v)) ≡ take 4 (drop 2064 s) =
-      stays ∙ ap (λ (x : List ℕ). low4 (edc 0 x)) (take-set-le 2064 s k v lo) ∙ sym good in
-      new (sym (getD-set-same s k v 0 (omega arith)) ∙ sym (four (set s k v)) ∙ ap (λ (x : List ℕ). getD x (k - 2064) 0) parts ∙ four s)
+      window-differs 2064 4 k v s lo (omega arith) (omega arith) new
+      (stays ∙ ap (λ (x : List ℕ). low4 (edc 0 x)) (take-set-le 2064 s k v lo) ∙ sym held)
 
   found : k < 2068 → ⊥
-  found h = by-place (ltb k 2064) refl
+  found h = ⊎-elim in-body (λ lo. in-code lo h) (lt-or-ge k 2064)
+
+module _ (s : List ℕ) (k v : ℕ) where
+  edc-away : 2068 ≤ k → edc-holds (set s k v) ≡ edc-holds s
+  unfolding edc-holds
+  edc-away h =
+      let past : 2064 ≤ k = omega arith in
+      same-away 2064 4 k v s (worked-out (set s k v)) (inr h)
+      ∙ ap (λ (x : List ℕ). same (stored s) (low4 (edc 0 x))) (take-set-le 2064 s k v past)
+
+  edc-found : length s ≡ 2352 → Bytes s → v < 256 → (v ≡ getD s k 0 → ⊥) → k < 2068 → edc-holds s ≡ true → edc-holds (set s k v) ≡ false
+  unfolding edc-holds
+  edc-found full hs hv new h held =
+      not-same (stored (set s k v)) (worked-out (set s k v))
+      (λ (e : stored (set s k v) ≡ worked-out (set s k v)). found s k v full hs hv new (same-is (stored s) (worked-out s) held) e h)
+
+  mode-away : (k ≡ 15 → ⊥) → mode-holds (set s k v) ≡ mode-holds s
+  unfolding mode-holds
+  mode-away h = ap (λ (x : ℕ). eqb x 1) (getD-set-other s k 15 v 0 (λ e. h (sym e)))
+
+  mode-found : length s ≡ 2352 → (v ≡ getD s k 0 → ⊥) → k ≡ 15 → mode-holds s ≡ true → mode-holds (set s k v) ≡ false
+  unfolding mode-holds
+  mode-found full new e held =
+      let inside : 15 < length s = omega (arith, full) in
+      let is : getD s 15 0 ≡ 1 = eqb-true _ _ held in
+      ap (λ (i : ℕ). eqb (getD (set s i v) 15 0) 1) e
+      ∙ ap (λ (x : ℕ). eqb x 1) (getD-set-same s 15 v 0 inside)
+      ∙ ne-eqb v 1 (λ (one : v ≡ 1). new (one ∙ sym is ∙ ap (λ (i : ℕ). getD s i 0) (sym e)))
+
+-- a fact is no where its test holds
+fact-set : (x y : Bool) → (x ≡ true → y ≡ false) → not x ≡ false → not y ≡ true
+fact-set x y h unset = ap not (h (not-false x unset))
+
+pub changed : ChangeClaim
+unfolding judgement sync-holds address-holds
+changed s a k v full hs hv new = record {
+  sync-stays = λ h. ap not (same-away 0 12 k v s sync (inr h));
+  sync-set = λ h. fact-set (sync-holds s) (sync-holds (set s k v)) (same-fails 0 12 k v s sync (omega arith) h (omega arith) new);
+  mode-stays = λ h. ap not (mode-away s k v h);
+  mode-set = λ h. fact-set (mode-holds s) (mode-holds (set s k v)) (mode-found s k v full new h);
+  edc-stays = λ h. ap not (edc-away s k v h);
+  edc-set = λ h. fact-set (edc-holds s) (edc-holds (set s k v)) (edc-found s k v full hs hv new h);
+  address-stays = λ h. ap not (same-away 12 3 k v s (address-bytes a) h);
+  address-set = λ from to. fact-set (address-holds a s) (address-holds a (set s k v)) (same-fails 12 3 k v s (address-bytes a) from to (omega arith) new);
+}
+
+-- in a good sector a fact is set exactly where k is inside
+module _ (s : List ℕ) (a : Address) (k v : ℕ) (h : Changed s a k v) where
+  abbrev after : Judgement
+  after = judgement a (set s k v)
+
+  sync-is : judgement a s .sync ≡ false → after .sync ≡ ltb k 12
+  sync-is unset = by (ltb k 12) refl
     where
-      by-place : (b : Bool) → ltb k 2064 ≡ b → ⊥
-      by-place true e = in-body (ltb-true k 2064 e)
-      by-place false e = in-code (ltb-false k 2064 e) h
+      by : (b : Bool) → ltb k 12 ≡ b → after .sync ≡ b
+      by true e = h .sync-set (ltb-true k 12 e) unset
+      by false e = h .sync-stays (ltb-false k 12 e) ∙ unset
+
+  mode-is : judgement a s .mode ≡ false → after .mode ≡ eqb k 15
+  mode-is unset = by (eqb k 15) refl
+    where
+      by : (b : Bool) → eqb k 15 ≡ b → after .mode ≡ b
+      by true e = h .mode-set (eqb-true k 15 e) unset
+      by false e = h .mode-stays (eqb-false k 15 e) ∙ unset
+
+  edc-is : judgement a s .edc ≡ false → after .edc ≡ ltb k 2068
+  edc-is unset = by (ltb k 2068) refl
+    where
+      by : (b : Bool) → ltb k 2068 ≡ b → after .edc ≡ b
+      by true e = h .edc-set (ltb-true k 2068 e) unset
+      by false e = h .edc-stays (ltb-false k 2068 e) ∙ unset
+
+  address-is : judgement a s .address ≡ false → after .address ≡ (leb 12 k && ltb k 15)
+  address-is unset = by (leb 12 k) (ltb k 15) refl refl
+    where
+      by : (b c : Bool) → leb 12 k ≡ b → ltb k 15 ≡ c → after .address ≡ (b && c)
+      by true true e f = h .address-set (leb-true 12 k e) (ltb-true k 15 f) unset
+      by true false e f = h .address-stays (inr (ltb-false k 15 f)) ∙ unset
+      by false c e f = h .address-stays (inl (leb-false 12 k e)) ∙ unset
 
 pub damage : DamageClaim
-unfolding edc-holds
-damage s a k v hs judged hk hv new =
+damage s a k v hs judged hv new =
     let ok = accepted s a (ap (λ (j : Judged). j .number) judged) in
-    let clean : staerr s ≡ false = sym (judged-staerr s a (ok .0) (ok .1)) ∙ ap (λ (j : Judged). j .judgement .staerr) judged in
-    let good = same-is (take 4 (drop 2064 s)) (low4 (edc 0 (take 2064 s))) (edc-of s clean) in
-    judged-staerr (set s k v) a (length-set s k v ∙ ok .0) (ok .1)
-    ∙ edc-fails (set s k v) (not-same (take 4 (drop 2064 (set s k v))) (low4 (edc 0 (take 2064 (set s k v))))
-    (λ (e : take 4 (drop 2064 (set s k v)) ≡ low4 (edc 0 (take 2064 (set s k v)))). found s k v (ok .0) hs hv new good e hk))
+    let none = judged-facts s a _ judged in
+    let h = changed s a k v (ok .0) hs hv new in
+    let unset : (f : Judgement → Bool) → f (judgement a s) ≡ f (record { sync = false; mode = false; edc = false; address = false }) = λ (f : Judgement → Bool). ap f none in
+    sym (judge-done (set s k v) a (length-set s k v ∙ ok .0) (ok .1))
+    ∙ ap (λ (j : Judgement). record { number = 0; judgement = j })
+    (same-facts (judgement a (set s k v)) (damaged k) (sync-is s a k v h (unset (λ j. j .sync))) (mode-is s a k v h (unset (λ j. j .mode))) (edc-is s a k v h (unset (λ j. j .edc)))
+    (address-is s a k v h (unset (λ j. j .address))))

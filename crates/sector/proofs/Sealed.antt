@@ -13,9 +13,9 @@ use Rattle.sector.specs.declared.Address.{Address}
 use Rattle.sector.specs.declared.Judgement.{Judgement}
 use Rattle.sector.specs.Address.{valid, address-bytes, address-of}
 use Rattle.sector.specs.Sector.{sync, low4, user, body, framed, sealed}
-use Rattle.sector.specs.Judge.{sync-holds, mode-holds, edc-holds, address-holds, staerr, judgement}
+use Rattle.sector.specs.Judge.{sync-holds, mode-holds, edc-holds, address-holds, judgement, no-facts}
 use Rattle.sector.specs.Calls.{seal-sector, open-sector, judge-answer}
-use Rattle.sector.specs.Claims.{verdict}
+use Rattle.sector.specs.Claims.{verdict, elsewhere}
 use Rattle.sector.proofs.Addresses.{from-bytes, bytes-back, bytes-tell}
 use Rattle.sector.proofs.Frames.{length-framed, code-framed, user-framed, framed-twice, sync-framed, header-framed, mode-framed, bytes-framed}
 use Rattle.sector.proofs.Answers.{open-done, seal-done, judge-done}
@@ -38,21 +38,17 @@ module _ (a : Address) (s : List ℕ) (full : length s ≡ 2352) where
   unfolding sealed
   opened = scrambled-twice (framed a s) (length-framed a s full)
 
-  no-staerr : staerr (framed a s) ≡ false
-  unfolding staerr sync-holds mode-holds edc-holds
-  no-staerr =
-      simp (same-of (take 12 (framed a s)) sync (sync-framed a s), mode-framed a s, same-of (take 4 (drop 2064 (framed a s))) (low4 (edc 0 (take 2064 (framed a s)))) (code-framed a s full))
-
   -- the judgement at any address is by the header alone
-  judged : (b : Address) (h : Bool) → address-holds b (framed a s) ≡ h → judgement b (framed a s) ≡ record { staerr = false; hcei = not h }
-  unfolding judgement
-  judged b h e = ap (λ (x : Bool). record { staerr = x; hcei = not (address-holds b (framed a s)) }) no-staerr ∙ ap (λ (x : Bool). record { staerr = false; hcei = not x }) e
+  judged : (b : Address) (h : Bool) → address-holds b (framed a s) ≡ h → judgement b (framed a s) ≡ record { sync = false; mode = false; edc = false; address = not h }
+  unfolding judgement sync-holds mode-holds edc-holds
+  judged b h e =
+      simp (same-of (take 12 (framed a s)) sync (sync-framed a s), mode-framed a s, same-of (take 4 (drop 2064 (framed a s))) (low4 (edc 0 (take 2064 (framed a s)))) (code-framed a s full), e)
 
-  pub judged-own : judgement a (framed a s) ≡ record { staerr = false; hcei = false }
+  pub judged-own : judgement a (framed a s) ≡ no-facts
   unfolding address-holds
   judged-own = judged a true (same-of (take 3 (drop 12 (framed a s))) (address-bytes a) (header-framed a s))
 
-  pub judged-other : (b : Address) → valid a ≡ true → valid b ≡ true → (b ≡ a → ⊥) → judgement b (framed a s) ≡ record { staerr = false; hcei = true }
+  pub judged-other : (b : Address) → valid a ≡ true → valid b ≡ true → (b ≡ a → ⊥) → judgement b (framed a s) ≡ elsewhere
   unfolding address-holds
   judged-other b va vb n =
       judged b false (not-same (take 3 (drop 12 (framed a s))) (address-bytes b) (λ (e : take 3 (drop 12 (framed a s)) ≡ address-bytes b). n (sym (bytes-tell a b va vb (sym (header-framed a s) ∙ e)))))
@@ -86,11 +82,11 @@ module _ (a : Address) (s : List ℕ) (full : length s ≡ 2352) (v : valid a �
   judges b j vb e =
       ap (λ (l : List ℕ). judge-answer l b) opens ∙ sym (judge-done (framed a s) b (length-framed a s full) vb) ∙ ap (λ (x : Judgement). record { number = 0; judgement = x }) e
 
-  pub own : judge-answer (open-sector (seal-sector s a)) a ≡ verdict false false
-  own = judges a (record { staerr = false; hcei = false }) v (judged-own a s full)
+  pub own : judge-answer (open-sector (seal-sector s a)) a ≡ verdict no-facts
+  own = judges a no-facts v (judged-own a s full)
 
-  pub other : (b : Address) → valid b ≡ true → (b ≡ a → ⊥) → judge-answer (open-sector (seal-sector s a)) b ≡ verdict false true
-  other b vb n = judges b (record { staerr = false; hcei = true }) vb (judged-other a s full b v vb n)
+  pub other : (b : Address) → valid b ≡ true → (b ≡ a → ⊥) → judge-answer (open-sector (seal-sector s a)) b ≡ verdict elsewhere
+  other b vb n = judges b elsewhere vb (judged-other a s full b v vb n)
 
   pub again : seal-sector (open-sector (seal-sector s a)) a ≡ seal-sector s a
   unfolding sealed

@@ -1,5 +1,5 @@
 -- What each call answers and leaves, on every input (paper 01, "Reply numbers" and "Sectors"). Assumes nothing.
-use mathlib.Core.Bool.{Bool, false}
+use mathlib.Core.Bool.{Bool}
 use mathlib.Core.List.{List}
 use Prim.Native.Nat.{ℕ}
 use lib.Dec.{eqb}
@@ -12,7 +12,7 @@ use Rattle.sector.specs.declared.Address.{Address}
 use Rattle.sector.specs.declared.Judged.{Judged}
 use Rattle.sector.specs.Address.{valid}
 use Rattle.sector.specs.Sector.{sealed}
-use Rattle.sector.specs.Judge.{judgement}
+use Rattle.sector.specs.Judge.{judgement, no-facts}
 
 -- a sector has 2,352 bytes
 abbrev pub whole : List ℕ → Bool
@@ -33,9 +33,9 @@ open-reply s = if whole s then answer 0 else refusal 1
 unfoldable pub open-sector : List ℕ → List ℕ
 open-sector s = if whole s then scrambled s else s
 
--- a refusal sets neither bit
+-- a refusal sets no fact
 abbrev pub refused : ℕ → Judged
-refused n = record { number = n; judgement = record { staerr = false; hcei = false } }
+refused n = record { number = n; judgement = no-facts }
 
 unfoldable pub judge-answer : List ℕ → Address → Judged
 judge-answer s a = if whole s then (if valid a then record { number = 0; judgement = judgement a s } else refused 3) else refused 1

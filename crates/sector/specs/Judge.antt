@@ -1,6 +1,6 @@
--- The judgement of a descrambled sector (paper 01, "Sectors": "Judging"). Bytes 2,068 to 2,351, zeros and parity, are not judged.
--- Assumes nothing.
-use mathlib.Core.Bool.{Bool, not, _&&_, _||_}
+-- The judgement of a descrambled sector (paper 01, "Sectors": "Judging"; paper 02, ask 1): four facts, each of a test of its own, and what is made
+-- of them. Bytes 2,068 to 2,351, zeros and parity, are not judged. Assumes nothing.
+use mathlib.Core.Bool.{Bool, false, not, _||_}
 use mathlib.Core.List.{List}
 use Prim.Native.Nat.{ℕ, _+_}
 use lib.Dec.{eqb}
@@ -29,18 +29,27 @@ edc-holds s = same (take 4 (drop 2064 s)) (low4 (edc 0 (take 2064 s)))
 unfoldable pub address-holds : Address → List ℕ → Bool
 address-holds a s = same (take 3 (drop 12 s)) (address-bytes a)
 
--- STAERR: sync, mode 1 or EDC fails
-unfoldable pub staerr : List ℕ → Bool
-staerr s = not (sync-holds s && (mode-holds s && edc-holds s))
-
--- HCEI: bytes 12 to 14 differ from the address
+-- what failed of a sector that is expected at an address; each fact is its own test's, whatever the others say
 unfoldable pub judgement : Address → List ℕ → Judgement
-judgement a s = record { staerr = staerr s; hcei = not (address-holds a s) }
+judgement a s =
+    record { sync = not (sync-holds s); mode = not (mode-holds s); edc = not (edc-holds s); address = not (address-holds a s) }
 
--- a good sector: neither bit is set
+-- nothing failed; so too where no sector was judged
+abbrev pub no-facts : Judgement
+no-facts = record { sync = false; mode = false; edc = false; address = false }
+
+-- STAERR: sync, mode or EDC failed
+abbrev pub staerr : Judgement → Bool
+staerr j = j .sync || (j .mode || j .edc)
+
+-- a good sector: nothing failed
 abbrev pub good : Judgement → Bool
-good j = not (j .staerr || j .hcei)
+good j = not (staerr j || j .address)
 
--- TARSTA (80h): STAERR in bit 6, HCEI in bit 0
+-- TARSTA (80h): STAERR in bit 6; HCEI, that the address failed, in bit 0
 abbrev pub tarsta-byte : Judgement → ℕ
-tarsta-byte j = weight (j .staerr) 0x40 + weight (j .hcei) 0x01
+tarsta-byte j = weight (staerr j) 0x40 + weight (j .address) 0x01
+
+-- the four facts as one number: sync 8, mode 4, EDC 2, address 1
+abbrev pub why : Judgement → ℕ
+why j = weight (j .sync) 8 + weight (j .mode) 4 + weight (j .edc) 2 + weight (j .address) 1

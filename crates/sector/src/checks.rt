@@ -3,7 +3,7 @@ ghost use mathlib.Core.Path.{_≡_};
 ghost use mathlib.Core.Bool.{true};
 ghost use lib.ListN.{length};
 ghost use Rattle.sector.specs.Address.{valid};
-ghost use Rattle.sector.specs.Judge.{sync-holds, mode-holds, edc-holds, address-holds, staerr, judgement};
+ghost use Rattle.sector.specs.Judge.{sync-holds, mode-holds, edc-holds, address-holds, judgement};
 use super::Address;
 use super::Judgement;
 use super::frame;
@@ -41,26 +41,20 @@ fn address_holds(sector: &[u8], address: Address) -> bool
     equal(&sector[12..15], &expected)
 }
 
-// The cheap tests first.
-fn staerr(sector: &[u8]) -> bool
-    requires { ⌜ length (now sector) ≡ 2352 ⌝ }
-    ensures { λ r. ⌜ r ≡ staerr (now (sector .entry)) ⌝ }
-{
-    if !sync_holds(sector) {
-        return true;
-    }
-    if !mode_holds(sector) {
-        return true;
-    }
-    !edc_holds(sector)
-}
-
+// Each test is made, whatever the others say.
 pub fn judgement_of(sector: &[u8], address: Address) -> Judgement
     requires { ⌜ length (now sector) ≡ 2352 ⌝ }
     requires { ⌜ valid address ≡ true ⌝ }
     ensures { λ r. ⌜ r ≡ judgement address (now (sector .entry)) ⌝ }
 {
-    let staerr = staerr(sector);
-    let hcei = !address_holds(sector, address);
-    Judgement { staerr, hcei }
+    let sync = sync_holds(sector);
+    let mode = mode_holds(sector);
+    let edc = edc_holds(sector);
+    let header = address_holds(sector, address);
+    Judgement {
+        sync: !sync,
+        mode: !mode,
+        edc: !edc,
+        address: !header,
+    }
 }

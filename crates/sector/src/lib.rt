@@ -26,13 +26,15 @@ pub struct Address {
     pub frame: u16,
 }
 
-// STAERR: sync, mode or EDC fails. HCEI: the header is not the expected address.
+// What failed of a sector: the sync bytes, the mode byte, the EDC, the address that was expected.
 pub struct Judgement {
-    pub staerr: bool,
-    pub hcei: bool,
+    pub sync: bool,
+    pub mode: bool,
+    pub edc: bool,
+    pub address: bool,
 }
 
-// The answer to a judging: a number as in `Reply`, and the two bits.
+// The answer to a judging: a number as in `Reply`, and the four facts.
 pub struct Judged {
     pub number: u8,
     pub judgement: Judgement,
@@ -66,21 +68,23 @@ pub fn open(sector: &mut [u8]) -> Reply
     answer(0)
 }
 
-// A judging that is refused sets neither bit.
+// A judging that is refused sets no fact.
 fn refused(number: u8) -> Judged
     ensures { λ r. ⌜ r ≡ refused number ⌝ }
 {
     Judged {
         number,
         judgement: Judgement {
-            staerr: false,
-            hcei: false,
+            sync: false,
+            mode: false,
+            edc: false,
+            address: false,
         },
     }
 }
 
 // Judges an opened sector against the address that is expected of it.
-// Ruled out: one that never sets STAERR, and one that sets HCEI for a wrong mode.
+// Ruled out: one that leaves the EDC untested where sync failed, and one that sets the address for a wrong mode.
 pub fn judge(sector: &[u8], address: Address) -> Judged
     ensures { λ r. ⌜ r ≡ judge-answer (now (sector .entry)) address ⌝ }
 {

@@ -1,9 +1,9 @@
 // Slices of bytes: what is not about CD-ROMs.
 use numbers::wide;
 ghost use mathlib.Core.Path.{_≡_};
-ghost use Prim.Native.Nat.{_+_, _<_};
+ghost use Prim.Native.Nat.{_+_, _-_, _<_};
 ghost use lib.ListN.{length, replicate};
-ghost use Rattle.laws.specs.Bytes.{word-at};
+ghost use Rattle.laws.specs.Bytes.{word-at, inverted};
 ghost use Rattle.laws.specs.Same.{same};
 
 // Whether two slices hold the same bytes.
@@ -32,6 +32,24 @@ pub fn fill(bytes: &mut [u8], byte: u8)
     let mut i: usize = 0;
     while i < bytes.len() {
         bytes[i] = byte;
+        i += 1;
+    }
+}
+
+fn turned(byte: u8) -> u8
+    ensures { λ r. ⌜ r ≡ 255 - byte ⌝ }
+{
+    255 - byte
+}
+
+// Inverts every bit.
+// Ruled out: one that leaves the last byte as it was, and one that inverts the lowest bit alone.
+pub fn invert(bytes: &mut [u8])
+    ensures { λ _. ⌜ now (bytes .exit) ≡ inverted (now (bytes .entry)) ⌝ }
+{
+    let mut i: usize = 0;
+    while i < bytes.len() {
+        bytes[i] = turned(bytes[i]);
         i += 1;
     }
 }

@@ -30,14 +30,20 @@ flag-digit : (b : Bool) → flag b < 10 ^ 1
 flag-digit true = omega arith
 flag-digit false = omega arith
 
-pub within : (s : Shown) → s .lines < 2 ^ 64 → s .number < 2 ^ 8 → s .out < 2 ^ 64 → s .tcc < 2 ^ 16 → s .bufc < 2 ^ 16 → Within rows s
-within s l n o t b = (
+pub within : (s : Shown) → s .lines < 2 ^ 64 → s .number < 2 ^ 8 → s .out < 2 ^ 64 → s .tcc < 2 ^ 16 → s .bufc < 2 ^ 16 → s .why < 2 ^ 16 → Within rows s
+within s l n o t b w = (
   length-decimal 19 (s .lines) (omega arith),
   (
     length-decimal 2 (s .number) (omega arith),
     (
       length-decimal 19 (s .out) (omega arith),
-      (length-decimal 4 (s .tcc) (omega arith), (length-decimal 4 (s .bufc) (omega arith), (length-decimal 0 (flag (s .irq)) (flag-digit (s .irq)), tt))),
+      (
+        length-decimal 4 (s .tcc) (omega arith),
+        (
+          length-decimal 4 (s .bufc) (omega arith),
+          (length-decimal 4 (s .why) (omega arith), (length-decimal 0 (flag (s .irq)) (flag-digit (s .irq)), tt)),
+        ),
+      ),
     ),
   ),
 )

@@ -1,4 +1,4 @@
--- The fifteen forms of a line (paper 01, "Bench cases"; docs/DECISIONS.md, "Bench"), in ASCII, each run of decimal digits written as one `0`.
+-- The sixteen forms of a line (paper 01, "Bench cases"; docs/DECISIONS.md, "Bench"), in ASCII, each run of decimal digits written as one `0`.
 -- Assumes nothing.
 use Prim.Native.Nat.{ℕ}
 use mathlib.Core.List.{List, [], _∷_}
@@ -42,6 +42,10 @@ address-form = 99 ∷ 97 ∷ 108 ∷ 108 ∷ 61 ∷ 97 ∷ 100 ∷ 100 ∷ 114 �
 -- "call=sector min=0 sec=0 frame=0 fill=0"
 abbrev pub sector-form : List ℕ
 sector-form = 99 ∷ 97 ∷ 108 ∷ 108 ∷ 61 ∷ 115 ∷ 101 ∷ 99 ∷ 116 ∷ 111 ∷ 114 ∷ 32 ∷ 109 ∷ 105 ∷ 110 ∷ 61 ∷ 48 ∷ 32 ∷ 115 ∷ 101 ∷ 99 ∷ 61 ∷ 48 ∷ 32 ∷ 102 ∷ 114 ∷ 97 ∷ 109 ∷ 101 ∷ 61 ∷ 48 ∷ 32 ∷ 102 ∷ 105 ∷ 108 ∷ 108 ∷ 61 ∷ 48 ∷ []
+
+-- "call=scratch from=0 count=0"
+abbrev pub scratch-form : List ℕ
+scratch-form = 99 ∷ 97 ∷ 108 ∷ 108 ∷ 61 ∷ 115 ∷ 99 ∷ 114 ∷ 97 ∷ 116 ∷ 99 ∷ 104 ∷ 32 ∷ 102 ∷ 114 ∷ 111 ∷ 109 ∷ 61 ∷ 48 ∷ 32 ∷ 99 ∷ 111 ∷ 117 ∷ 110 ∷ 116 ∷ 61 ∷ 48 ∷ []
 
 -- "call=reset"
 abbrev pub reset-form : List ℕ

@@ -7,10 +7,10 @@ use lib.Dec.{ltb, leb}
 use lib.ListN.{length}
 use Rattle.laws.specs.Choice.{if_then_else_}
 use Rattle.laws.specs.Same.{same}
-use Rattle.syntax.specs.Forms.{open-form, read-form, block-form, packet-form, command-form, send-form, write-form, window-form, address-form, sector-form, reset-form, look-form, word-form, status-form, srst-form}
+use Rattle.syntax.specs.Forms.{open-form, read-form, block-form, packet-form, command-form, send-form, write-form, window-form, address-form, sector-form, scratch-form, reset-form, look-form, word-form, status-form, srst-form}
 use Rattle.syntax.specs.declared.numbers.Numbers.{Numbers}
 use Rattle.syntax.specs.declared.line.Line.{Line}
-use Rattle.syntax.specs.declared.line.Line.the-variants.{Malformed, Open, Plain, Look, Take, Disc}
+use Rattle.syntax.specs.declared.line.Line.the-variants.{Malformed, Open, Plain, Look, Take, Disc, Scratch}
 use Rattle.calls.specs.declared.Call.the-variants.{Read, Write, SetBlock, SetWindow, SetExpected, PacketByte, Reset, Command, PacketWord, Status, Srst}
 
 -- `0` to `9`
@@ -66,14 +66,20 @@ bare f =
     else if same f srst-form then Plain Srst
     else Malformed
 
--- the calls with several numbers
+-- the disc's: a sector, and what it arrives with
+unfoldable pub disc : List ℕ → Numbers → Line
+disc f n =
+    if same f sector-form then Disc (record { minute = n .a; second = n .b; frame = n .c }) (n .d)
+    else if same f scratch-form then Scratch (n .c) (n .d)
+    else bare f
+
+-- the chip's calls with several numbers
 unfoldable pub several : List ℕ → Numbers → Line
 several f n =
     if same f write-form then Plain (Write (n .c) (n .d))
     else if same f window-form then Plain (SetWindow (n .c) (n .d))
     else if same f address-form then Plain (SetExpected (record { minute = n .b; second = n .c; frame = n .d }))
-    else if same f sector-form then Disc (record { minute = n .a; second = n .b; frame = n .c }) (n .d)
-    else bare f
+    else disc f n
 
 -- the calls with one number
 unfoldable pub named : List ℕ → Numbers → Line

@@ -1,4 +1,4 @@
--- The line that the bench answers (paper 01, "Bench cases", the listing of the program "bench"), as bytes. Assumes nothing.
+-- The line that the bench answers (paper 01, "Bench cases", the listing of the program "bench"; paper 02, ask 1), as bytes. Assumes nothing.
 use mathlib.Core.Bool.{Bool}
 use mathlib.Core.Path.{_≡_}
 use mathlib.Core.List.{List, [], _∷_, _++_}
@@ -32,7 +32,7 @@ pub record Row : Type 0 where
   pub number : Shown → ℕ
   pub digits : ℕ
 
--- the line: the call's number among the lines and its reply, and the chip after it, as in `n=5 answer=0 out=0 tcc=1 bufc=1 irq=0`
+-- the line: the call's number among the lines and its reply, and the chip after it, as in `n=5 answer=0 out=0 tcc=1 bufc=1 why=0 irq=0`
 abbrev pub rows : List Row
 rows =
     record { key = 110 ∷ 61 ∷ []; number = λ s. s .lines; digits = 20 }  -- "n="
@@ -40,6 +40,7 @@ rows =
     ∷ record { key = 32 ∷ 111 ∷ 117 ∷ 116 ∷ 61 ∷ []; number = λ s. s .out; digits = 20 }  -- " out="
     ∷ record { key = 32 ∷ 116 ∷ 99 ∷ 99 ∷ 61 ∷ []; number = λ s. s .tcc; digits = 5 }  -- " tcc="
     ∷ record { key = 32 ∷ 98 ∷ 117 ∷ 102 ∷ 99 ∷ 61 ∷ []; number = λ s. s .bufc; digits = 5 }  -- " bufc="
+    ∷ record { key = 32 ∷ 119 ∷ 104 ∷ 121 ∷ 61 ∷ []; number = λ s. s .why; digits = 5 }  -- " why="
     ∷ record { key = 32 ∷ 105 ∷ 114 ∷ 113 ∷ 61 ∷ []; number = λ s. flag (s .irq); digits = 1 }  -- " irq="
     ∷ []
 

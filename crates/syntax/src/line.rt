@@ -7,9 +7,9 @@ use calls::Call;
 use sector::Address;
 use slices::equal;
 ghost use mathlib.Core.Path.{_≡_};
-ghost use Rattle.syntax.specs.Grammar.{bare, several, named, parse};
+ghost use Rattle.syntax.specs.Grammar.{bare, disc, several, named, parse};
 
-// The calls of the bench, by their names in docs/BENCH.md: `word` is `Take`, `sector` is `Disc`, and the calls of the chip that are lent no
+// The calls of the bench, by their names in docs/BENCH.md: `word` is `Take`, `sector` is `Disc`, `scratch` is the disc's, and the calls of the chip that are lent no
 // memory are `Plain`: `block`, `window` and `address` set, `packet` is a packet byte and `send` a packet word.
 pub enum Line {
     Malformed,
@@ -18,6 +18,7 @@ pub enum Line {
     Look,
     Take,
     Disc(Address, u16),
+    Scratch(u16, u16),
 }
 
 // The calls with no number.
@@ -42,7 +43,25 @@ fn bare(form: &[u8]) -> Line
     Line::Malformed
 }
 
-// The calls with several numbers; the last stands in `d`.
+// The disc's: a sector, and what it arrives with.
+fn disc(form: &[u8], n: Numbers) -> Line
+    ensures { λ r. ⌜ r ≡ disc (now (form .entry)) n ⌝ }
+{
+    if equal(form, b"call=sector min=0 sec=0 frame=0 fill=0") {
+        let address = Address {
+            minute: n.a,
+            second: n.b,
+            frame: n.c,
+        };
+        return Line::Disc(address, n.d);
+    }
+    if equal(form, b"call=scratch from=0 count=0") {
+        return Line::Scratch(n.c, n.d);
+    }
+    bare(form)
+}
+
+// The chip's calls with several numbers; the last stands in `d`.
 fn several(form: &[u8], n: Numbers) -> Line
     ensures { λ r. ⌜ r ≡ several (now (form .entry)) n ⌝ }
 {
@@ -60,15 +79,7 @@ fn several(form: &[u8], n: Numbers) -> Line
         };
         return Line::Plain(Call::SetExpected(address));
     }
-    if equal(form, b"call=sector min=0 sec=0 frame=0 fill=0") {
-        let address = Address {
-            minute: n.a,
-            second: n.b,
-            frame: n.c,
-        };
-        return Line::Disc(address, n.d);
-    }
-    bare(form)
+    disc(form, n)
 }
 
 // The calls with one number, then the others.

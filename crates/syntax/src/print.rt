@@ -8,13 +8,15 @@ use super::decimal;
 // The room that is lent for a line: `room` of the definitions.
 pub const ROOM: usize = 160;
 
-// What the line shows: how many lines were read, the reply's number and result, TCC, BUFC and the host interrupt.
+// What the line shows: how many lines were read, the reply's number and result, TCC, BUFC, what failed of the last stored sector, and the
+// host interrupt.
 pub struct Shown {
     pub lines: u64,
     pub number: u8,
     pub out: u64,
     pub tcc: u16,
     pub bufc: u16,
+    pub why: u16,
     pub irq: bool,
 }
 
@@ -44,7 +46,8 @@ fn chip_text(out: &mut [u8], at: usize, s: Shown) -> usize
 {
     let tcc = decimal::field(out, at, b" tcc=", s.tcc as u64);
     let bufc = decimal::field(out, tcc, b" bufc=", s.bufc as u64);
-    decimal::field(out, bufc, b" irq=", flag(s.irq))
+    let why = decimal::field(out, bufc, b" why=", s.why as u64);
+    decimal::field(out, why, b" irq=", flag(s.irq))
 }
 
 // Writes the line at the front of a buffer, which has room for it, and answers its length.

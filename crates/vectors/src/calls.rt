@@ -31,9 +31,9 @@ pub(crate) fn opens(scrambled: &[u8], plain: &[u8]) -> bool {
     reply.number == 0 && reply.result == 0 && check::same(buffer, plain)
 }
 
-// Judging gives these two bits.
-pub(crate) fn judges(plain: &[u8], address: Address, staerr: bool, hcei: bool) -> bool {
+// Judging gives these facts, as the number why.
+pub(crate) fn judges(plain: &[u8], address: Address, why: u16) -> bool {
     let judged = sector::judge(plain, address);
-    let bits = judged.judgement;
-    judged.number == 0 && bits.staerr == staerr && bits.hcei == hcei
+    let facts = judged.judgement;
+    judged.number == 0 && facts.why() == why
 }

@@ -3,8 +3,8 @@ use super::calls;
 use super::tally::Tally;
 use sector::Address;
 
-// The copy changed at `place` is judged by these two bits.
-fn changed(plain: &[u8], place: usize, address: Address, staerr: bool, hcei: bool) -> bool {
+// The copy changed at `place` is judged so.
+fn changed(plain: &[u8], place: usize, address: Address, why: u16) -> bool {
     let mut space = [0u8; 2352];
     let buffer: &mut [u8] = &mut space;
     calls::put(buffer, 0, plain);
@@ -12,33 +12,26 @@ fn changed(plain: &[u8], place: usize, address: Address, staerr: bool, hcei: boo
         return false;
     }
     buffer[place] = buffer[place] ^ 0x10;
-    calls::judges(buffer, address, staerr, hcei)
+    calls::judges(buffer, address, why)
 }
 
-// STAERR alone.
-fn fails(plain: &[u8], first: usize, last: usize, address: Address) -> bool {
-    changed(plain, first, address, true, false) && changed(plain, last, address, true, false)
+// At both ends of a part.
+fn ends(plain: &[u8], first: usize, last: usize, address: Address, why: u16) -> bool {
+    changed(plain, first, address, why) && changed(plain, last, address, why)
 }
 
-// Neither bit.
-fn passes(plain: &[u8], first: usize, last: usize, address: Address) -> bool {
-    changed(plain, first, address, false, false) && changed(plain, last, address, false, false)
+// Each of the three bytes.
+fn address_bytes(plain: &[u8], address: Address, why: u16) -> bool {
+    ends(plain, 12, 14, address, why) && changed(plain, 13, address, why)
 }
 
-// Both bits: the EDC covers the address too.
-fn fails_address(plain: &[u8], address: Address) -> bool {
-    let minute = changed(plain, 12, address, true, true);
-    let second = changed(plain, 13, address, true, true);
-    minute && second && changed(plain, 14, address, true, true)
-}
-
-// The zeros after the EDC and the parity are not judged.
+// The EDC (2) covers sync (8), address (1) and mode (4) too. The zeros after it and the parity are not judged.
 pub(crate) fn checks(plain: &[u8], address: Address, t: Tally) -> Tally {
-    let a = t.check(b" sync", fails(plain, 0, 11, address));
-    let b = a.check(b" address", fails_address(plain, address));
-    let c = b.check(b" mode", fails(plain, 15, 15, address));
-    let d = c.check(b" user", fails(plain, 16, 2063, address));
-    let e = d.check(b" edc", fails(plain, 2064, 2067, address));
-    let f = e.check(b" zeros", passes(plain, 2068, 2075, address));
-    f.check(b" parity", passes(plain, 2076, 2351, address))
+    let a = t.check(b" sync", ends(plain, 0, 11, address, 8 + 2));
+    let b = a.check(b" address", address_bytes(plain, address, 2 + 1));
+    let c = b.check(b" mode", changed(plain, 15, address, 4 + 2));
+    let d = c.check(b" user", ends(plain, 16, 2063, address, 2));
+    let e = d.check(b" edc", ends(plain, 2064, 2067, address, 2));
+    let f = e.check(b" zeros", ends(plain, 2068, 2075, address, 0));
+    f.check(b" parity", ends(plain, 2076, 2351, address, 0))
 }

@@ -43,8 +43,8 @@ fn compare(bytes: &[u8], frames: u32, t: Tally) -> Tally
     let a = t.check(b" edc", code == fields::word(&bytes[20..24]));
     let b = a.check(b" sealed", sealed);
     let c = b.check(b" opened", calls::opens(scrambled, plain));
-    let d = c.check(b" judged", calls::judges(plain, address, false, false));
-    d.check(b" next", calls::judges(plain, next, false, true))
+    let d = c.check(b" judged", calls::judges(plain, address, 0));
+    d.check(b" next", calls::judges(plain, next, 1))
 }
 
 // The two lines of the record `number` of the file.

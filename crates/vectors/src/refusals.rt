@@ -16,8 +16,8 @@ fn is_refusal(r: Reply, number: u8) -> bool {
 }
 
 fn is_refused(j: Judged, number: u8) -> bool {
-    let bits = j.judgement;
-    j.number == number && !bits.staerr && !bits.hcei
+    let facts = j.judgement;
+    j.number == number && facts.why() == 0
 }
 
 // Sealing and judging at `address` answer `number`, and the buffer stays.

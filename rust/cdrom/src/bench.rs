@@ -40,7 +40,7 @@ mod tests {
         let mut out = [b'.'; 2 * ANSWER_ROOM];
         let text = b"call=open ring=3\ncall=look\ncall=look";
         let size = bench(&mut memory, &mut sector, text, &mut out);
-        let answers = "n=1 answer=0 out=0 tcc=0 bufc=0 irq=0\nn=2 answer=0 out=0 tcc=0 bufc=0 irq=0\n";
+        let answers = "n=1 answer=0 out=0 tcc=0 bufc=0 why=0 irq=0\nn=2 answer=0 out=0 tcc=0 bufc=0 why=0 irq=0\n";
         assert_eq!(core::str::from_utf8(&out[..size]), Ok(answers));
         assert!(out[size..].iter().all(|&byte| byte == b'.'));
         assert_eq!(bench(&mut memory, &mut sector, text, &mut out[..ANSWER_ROOM - 1]), 0);

@@ -2,7 +2,7 @@
 
 use crate::raw::{self, CHIP_WORDS};
 use crate::refusal::{done, result_of, Refusal};
-use crate::sectors::{Address, Verdict};
+use crate::sectors::{Address, Facts, Verdict};
 use core::fmt;
 
 /// The bytes of a ring's block.
@@ -45,7 +45,8 @@ impl<'ring> Chip<'ring> {
     /// A chip that was kept by [`record`](Chip::record), to go on over the same memory.
     ///
     /// The memory must hold what it held when the record was kept: a record over other bytes serves blocks that were
-    /// never read. Where it may be lost, [`open`](Chip::open) anew. A record that was damaged meanwhile may be
+    /// never read. Where it may be lost, [`open`](Chip::open) anew; and also where the record was kept under another
+    /// [`VERSION`](crate::VERSION), since its words meant something else. A record that was damaged meanwhile may be
     /// unsound: every call then answers [`WrongLength`](Refusal::WrongLength), and a look is empty. Memory of another
     /// length is refused by the calls that touch it.
     pub fn from_record(record: Record, ring: &'ring mut [u8]) -> Chip<'ring> {
@@ -137,10 +138,10 @@ impl Chip<'_> {
     }
 }
 
-/// The disc's call.
+/// The disc's call, and what it found.
 impl Chip<'_> {
     /// A sector as it comes from the disc: descrambled into block B, judged against the expected address, and counted
-    /// where it is good. After a bad one the chip is held until DECEN is taken low.
+    /// where it is good. After a bad one the chip is held until DECEN is taken low; [`why`](Chip::why) says what failed.
     ///
     /// Refusals: [`WrongLength`](Refusal::WrongLength) also for the sector, [`DecodingOff`](Refusal::DecodingOff),
     /// [`Held`](Refusal::Held), [`NoRoom`](Refusal::NoRoom).
@@ -157,6 +158,13 @@ impl Chip<'_> {
             )
         };
         result_of(answer).map(Verdict::of_result)
+    }
+
+    /// What failed of the last sector that was taken; nothing from opening or [`reset`](Chip::reset) to the first.
+    /// Refused sectors, DECEN low, [`srst`](Chip::srst) and reads keep it.
+    pub fn why(&self) -> Facts {
+        // SAFETY: the record is ours and only read.
+        Facts::of_result(unsafe { raw::cdrom_chip_why(&self.record) })
     }
 }
 

@@ -26,6 +26,11 @@
 //! assert!(chip.sector(&sector)?.is_good());
 //! assert_eq!(chip.read(TCC), Ok(1));
 //!
+//! // The same sector once more is read well, but another one is due. It does not count, and is given up with DECEN low.
+//! assert!(!chip.sector(&sector)?.is_good());
+//! assert_eq!(chip.why().to_string(), "address");
+//! chip.write(CTRL0, 0)?;
+//!
 //! // The host's command sets BSY, the firmware starts the transfer of one block, and the host is told.
 //! chip.command(0x28)?;
 //! chip.write(ASTRG, ADTT)?;
@@ -86,7 +91,9 @@ mod sectors;
 pub use bench::{bench, ANSWER_ROOM, RING_BYTES};
 pub use chip::{Chip, Record, BLOCK_BYTES, LEAST_BLOCKS, MOST_BLOCKS};
 pub use refusal::Refusal;
-pub use sectors::{edc, judge, open, seal, Address, Verdict, SECTOR_BYTES, USER_BYTES, USER_OFFSET};
+pub use sectors::{edc, judge, open, seal, Address, Facts, Verdict, SECTOR_BYTES, USER_BYTES, USER_OFFSET};
+pub use sectors::{WHY_ADDRESS, WHY_EDC, WHY_MODE, WHY_SYNC};
 
-/// The version of `include/cdrom.h` that this crate declares.
-pub const VERSION: u32 = 1;
+/// The version of `include/cdrom.h` that this crate declares. Since 2 [`judge`] gives [`Facts`] and [`Chip::why`] those
+/// of the last sector, and a [`Record`] that was kept under 1 must not be handed over.
+pub const VERSION: u32 = 2;

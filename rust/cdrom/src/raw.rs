@@ -24,6 +24,7 @@ extern "C" {
         sector: *const u8,
         length: usize,
     ) -> u32;
+    pub fn cdrom_chip_why(chip: *const [u16; CHIP_WORDS]) -> u32;
     pub fn cdrom_chip_look(
         chip: *const [u16; CHIP_WORDS],
         ring: *const u8,

@@ -97,7 +97,7 @@ pub const CORR: u16 = 0x04;
 /// Status and [`ASCSTA`]: an error is to be looked up.
 pub const CHECK: u16 = 0x01;
 
-/// [`TARSTA`]: sync, mode or code is wrong.
+/// [`TARSTA`]: sync, mode or code is wrong. [`Facts`](crate::Facts) tells them apart.
 pub const STAERR: u16 = 0x40;
 /// [`TARSTA`]: another address than expected.
 pub const HCEI: u16 = 0x01;

@@ -3,6 +3,7 @@
 use crate::raw;
 use crate::refusal::{done, result_of, Refusal};
 use crate::registers::{HCEI, STAERR};
+use core::fmt;
 
 /// A sector as it comes from the disc.
 pub const SECTOR_BYTES: usize = 2352;
@@ -10,6 +11,15 @@ pub const SECTOR_BYTES: usize = 2352;
 pub const USER_OFFSET: usize = 16;
 /// How many user bytes a sector has.
 pub const USER_BYTES: usize = 2048;
+
+/// [`Facts::why`]: bytes 0 to 11 are not the sync bytes.
+pub const WHY_SYNC: u8 = 8;
+/// [`Facts::why`]: byte 15 is not 1.
+pub const WHY_MODE: u8 = 4;
+/// [`Facts::why`]: bytes 2,064 to 2,067 are not the error detection code of those before them.
+pub const WHY_EDC: u8 = 2;
+/// [`Facts::why`]: bytes 12 to 14 are another address than the expected one.
+pub const WHY_ADDRESS: u8 = 1;
 
 /// A sector's place on the disc. Any numbers may be asked about; those out of range are refused.
 #[derive(Clone, Copy, Debug, PartialEq, Eq, Hash)]
@@ -22,7 +32,87 @@ pub struct Address {
     pub frame: u16,
 }
 
-/// What judging found; both low is a good sector.
+/// What failed of a sector: four tests, each made whatever the others say. Its text is for a log.
+///
+/// The code is taken over bytes 0 to 2,063, so that a damaged sync, mode or address byte fails it too. The address alone
+/// is a sector that was read well and lies elsewhere.
+///
+/// ```
+/// # fn main() -> Result<(), cdrom::Refusal> {
+/// let place = cdrom::Address { minute: 0, second: 2, frame: 0 };
+/// let mut sector = [b'A'; cdrom::SECTOR_BYTES];
+/// cdrom::seal(&mut sector, place)?;
+/// cdrom::open(&mut sector)?;
+/// assert_eq!(cdrom::judge(&sector, place)?.to_string(), "good");
+/// sector[3] = 0;
+/// let facts = cdrom::judge(&sector, place)?;
+/// assert!(facts.sync && facts.edc && !facts.mode && !facts.address);
+/// assert_eq!(facts.to_string(), "sync, EDC");
+/// # Ok(())
+/// # }
+/// ```
+#[derive(Clone, Copy, Debug, PartialEq, Eq, Hash)]
+pub struct Facts {
+    /// The sync bytes are wrong.
+    pub sync: bool,
+    /// The mode is not 1.
+    pub mode: bool,
+    /// The error detection code is not that of the bytes before it.
+    pub edc: bool,
+    /// The sector's address is not the expected one.
+    pub address: bool,
+}
+
+impl Facts {
+    /// Whether the sector counts.
+    pub const fn is_good(self) -> bool {
+        self.why() == 0
+    }
+
+    /// One number of them, 0 to 15: [`WHY_SYNC`], [`WHY_MODE`], [`WHY_EDC`] and [`WHY_ADDRESS`] of those that failed.
+    pub const fn why(self) -> u8 {
+        self.sync as u8 * WHY_SYNC
+            + self.mode as u8 * WHY_MODE
+            + self.edc as u8 * WHY_EDC
+            + self.address as u8 * WHY_ADDRESS
+    }
+
+    /// The facts of a number; none above 15.
+    pub const fn from_why(why: u8) -> Option<Facts> {
+        if why > WHY_SYNC | WHY_MODE | WHY_EDC | WHY_ADDRESS {
+            return None;
+        }
+        Some(Facts {
+            sync: why & WHY_SYNC != 0,
+            mode: why & WHY_MODE != 0,
+            edc: why & WHY_EDC != 0,
+            address: why & WHY_ADDRESS != 0,
+        })
+    }
+
+    /// The two bits of register 80h that are made from them.
+    pub const fn verdict(self) -> Verdict {
+        Verdict { staerr: self.sync || self.mode || self.edc, hcei: self.address }
+    }
+
+    /// As a result has them.
+    pub(crate) fn of_result(result: u32) -> Facts {
+        let facts = u8::try_from(result).ok().and_then(Facts::from_why);
+        facts.unwrap_or_else(|| panic!("{result:#x} is no why of cdrom.h"))
+    }
+}
+
+/// Those that failed by their names, or `good`.
+impl fmt::Display for Facts {
+    fn fmt(&self, f: &mut fmt::Formatter<'_>) -> fmt::Result {
+        let tests = [(self.sync, "sync"), (self.mode, "mode"), (self.edc, "EDC"), (self.address, "address")];
+        let mut failed = tests.into_iter().filter(|(failed, _)| *failed).map(|(_, name)| name);
+        f.write_str(failed.next().unwrap_or("good"))?;
+        failed.try_for_each(|name| write!(f, ", {name}"))
+    }
+}
+
+/// The two bits of register 80h; both low is a good sector.
 #[derive(Clone, Copy, Debug, PartialEq, Eq, Hash)]
 pub struct Verdict {
     /// Sync, mode or code is wrong.
@@ -35,6 +125,11 @@ impl Verdict {
     /// Whether the sector counts.
     pub const fn is_good(self) -> bool {
         !self.staerr && !self.hcei
+    }
+
+    /// The byte of register 80h: [`STAERR`], [`HCEI`], both or 0.
+    pub const fn tarsta(self) -> u16 {
+        self.staerr as u16 * STAERR + self.hcei as u16 * HCEI
     }
 
     /// The bits of register 80h, as a result has them.
@@ -67,11 +162,11 @@ pub fn open(sector: &mut [u8]) -> Result<(), Refusal> {
 /// Judges an opened sector against the address that is expected of it.
 ///
 /// Refusals: [`WrongLength`](Refusal::WrongLength), [`OutOfRange`](Refusal::OutOfRange) for the address.
-pub fn judge(sector: &[u8], expected: Address) -> Result<Verdict, Refusal> {
+pub fn judge(sector: &[u8], expected: Address) -> Result<Facts, Refusal> {
     let Address { minute, second, frame } = expected;
     // SAFETY: as in `seal`; the call only reads.
     let answer = unsafe { raw::cdrom_judge(sector.as_ptr(), sector.len(), minute, second, frame) };
-    result_of(answer).map(Verdict::of_result)
+    result_of(answer).map(Facts::of_result)
 }
 
 /// The error detection code of any number of bytes.
@@ -83,8 +178,51 @@ pub fn edc(bytes: &[u8]) -> u32 {
 #[cfg(test)]
 mod tests {
     use super::*;
+    use std::string::ToString;
 
     const ADDRESS: Address = Address { minute: 12, second: 34, frame: 56 };
+    const CODE_OFFSET: usize = 2064;
+
+    /// The sixteen as a log has them, by their numbers.
+    const TEXTS: [&str; 16] = [
+        "good",
+        "address",
+        "EDC",
+        "EDC, address",
+        "mode",
+        "mode, address",
+        "mode, EDC",
+        "mode, EDC, address",
+        "sync",
+        "sync, address",
+        "sync, EDC",
+        "sync, EDC, address",
+        "sync, mode",
+        "sync, mode, address",
+        "sync, mode, EDC",
+        "sync, mode, EDC, address",
+    ];
+
+    fn facts(why: u8) -> Facts {
+        Facts::from_why(why).expect("0 to 15 are facts")
+    }
+
+    fn opened() -> [u8; SECTOR_BYTES] {
+        let mut sector = [0x5A; SECTOR_BYTES];
+        assert_eq!((seal(&mut sector, ADDRESS), open(&mut sector)), (Ok(()), Ok(())));
+        sector
+    }
+
+    /// A sector that fails in these facts and no other: the code is made to fit the damaged bytes before it.
+    fn spoilt(facts: Facts) -> [u8; SECTOR_BYTES] {
+        let mut sector = opened();
+        sector[11] ^= u8::from(facts.sync);
+        sector[14] ^= u8::from(facts.address);
+        sector[15] ^= u8::from(facts.mode) << 1;
+        let code = edc(&sector[..CODE_OFFSET]) ^ u32::from(facts.edc);
+        sector[CODE_OFFSET..][..4].copy_from_slice(&code.to_le_bytes());
+        sector
+    }
 
     #[test]
     fn a_sector_is_sealed_opened_and_judged() {
@@ -94,12 +232,37 @@ mod tests {
         assert_eq!(open(&mut sector), Ok(()));
         assert_eq!(sector[12..16], [0x12, 0x34, 0x56, 1]);
         assert_eq!(sector[USER_OFFSET..][..USER_BYTES], [0x5A; USER_BYTES]);
-        assert_eq!(sector[2064..2068], edc(&sector[..2064]).to_le_bytes());
-        assert!(judge(&sector, ADDRESS).is_ok_and(Verdict::is_good));
+        assert_eq!(sector[CODE_OFFSET..][..4], edc(&sector[..CODE_OFFSET]).to_le_bytes());
+        assert!(judge(&sector, ADDRESS).is_ok_and(Facts::is_good));
         let other = Address { frame: 57, ..ADDRESS };
-        assert_eq!(judge(&sector, other), Ok(Verdict { staerr: false, hcei: true }));
+        assert_eq!(judge(&sector, other), Ok(facts(WHY_ADDRESS)));
         sector[USER_OFFSET] ^= 1;
-        assert_eq!(judge(&sector, ADDRESS), Ok(Verdict { staerr: true, hcei: false }));
+        assert_eq!(judge(&sector, ADDRESS), Ok(facts(WHY_EDC)));
+        assert_eq!(judge(&sector, other), Ok(facts(WHY_EDC | WHY_ADDRESS)));
+    }
+
+    #[test]
+    fn each_fact_is_found_whatever_the_others_say() {
+        for why in 0..=15 {
+            assert_eq!(judge(&spoilt(facts(why)), ADDRESS), Ok(facts(why)), "{why}");
+        }
+    }
+
+    #[test]
+    fn a_damaged_byte_before_the_code_fails_it_too() {
+        let places = [(0..=11, WHY_SYNC), (12..=14, WHY_ADDRESS), (15..=15, WHY_MODE), (16..=2067, 0)];
+        for (place, why) in places.into_iter().flat_map(|(places, why)| places.map(move |place| (place, why))) {
+            let mut sector = opened();
+            sector[place] ^= 0x80;
+            assert_eq!(judge(&sector, ADDRESS), Ok(facts(why | WHY_EDC)), "{place}");
+        }
+    }
+
+    #[test]
+    fn zeros_and_parity_are_not_judged() {
+        let mut sector = opened();
+        sector[CODE_OFFSET + 4..].fill(0xA5);
+        assert_eq!(judge(&sector, ADDRESS), Ok(facts(0)));
     }
 
     #[test]
@@ -130,6 +293,36 @@ mod tests {
             [verdict(false, false), verdict(false, true), verdict(true, false), verdict(true, true),]
         );
         assert!(verdict(false, false).is_good() && !verdict(false, true).is_good() && !verdict(true, false).is_good());
+        assert_eq!(
+            [0x00, 0x01, 0x40, 0x41].map(|byte| Verdict::of_result(byte).tarsta()),
+            [0, HCEI, STAERR, STAERR | HCEI]
+        );
+    }
+
+    #[test]
+    fn sixteen_numbers_are_facts() {
+        for (why, text) in (0..).zip(TEXTS) {
+            let facts = facts(why);
+            assert_eq!((facts.why(), facts.to_string().as_str()), (why, text));
+            assert_eq!(facts, Facts::of_result(why.into()));
+            let verdict = Verdict { staerr: facts.sync || facts.mode || facts.edc, hcei: facts.address };
+            assert_eq!(facts.verdict(), verdict);
+            assert_eq!([facts.is_good(), verdict.is_good()], [why == 0; 2]);
+        }
+        assert!((16..=255).all(|why| Facts::from_why(why).is_none()));
+        assert!(facts(WHY_SYNC).sync && facts(WHY_MODE).mode && facts(WHY_EDC).edc && facts(WHY_ADDRESS).address);
+    }
+
+    #[test]
+    #[should_panic(expected = "no why of cdrom.h")]
+    fn a_why_above_15_is_a_fault() {
+        Facts::of_result(16);
+    }
+
+    #[test]
+    #[should_panic(expected = "no why of cdrom.h")]
+    fn a_why_of_more_than_a_byte_is_a_fault() {
+        Facts::of_result(0x101);
     }
 
     #[test]

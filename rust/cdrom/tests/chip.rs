@@ -3,7 +3,8 @@
 
 use cdrom::raw::CHIP_WORDS;
 use cdrom::registers::*;
-use cdrom::{seal, Address, Chip, Refusal, Verdict, BLOCK_BYTES, SECTOR_BYTES, USER_OFFSET};
+use cdrom::{edc, open, seal, Address, Chip, Facts, Refusal, Verdict, BLOCK_BYTES, SECTOR_BYTES, USER_OFFSET};
+use cdrom::{WHY_ADDRESS, WHY_EDC, WHY_SYNC};
 
 const BLOCKS: u16 = 4;
 const RING_BYTES: usize = BLOCKS as usize * BLOCK_BYTES;
@@ -17,6 +18,24 @@ fn address(frame: u16) -> Address {
 fn sector(frame: u16, fill: u8) -> [u8; SECTOR_BYTES] {
     let mut sector = [fill; SECTOR_BYTES];
     seal(&mut sector, address(frame)).expect("a sector and an address");
+    sector
+}
+
+fn facts(why: u8) -> Facts {
+    Facts::from_why(why).expect("0 to 15 are facts")
+}
+
+/// A sector at 00:02:frame that fails in these facts and no other: its code is made to fit the damaged bytes before it.
+/// Scrambling is its own inverse, so that opening once more scrambles it.
+fn spoilt(frame: u16, facts: Facts) -> [u8; SECTOR_BYTES] {
+    let mut sector = sector(frame, 0x77);
+    open(&mut sector).expect("a sector");
+    sector[0] ^= u8::from(facts.sync);
+    sector[12] ^= u8::from(facts.address);
+    sector[15] ^= u8::from(facts.mode) << 7;
+    let code = edc(&sector[..2064]) ^ u32::from(facts.edc) << 31;
+    sector[2064..2068].copy_from_slice(&code.to_le_bytes());
+    open(&mut sector).expect("a sector");
     sector
 }
 
@@ -126,6 +145,50 @@ fn sectors() -> Result<(), Refusal> {
 }
 
 #[test]
+fn facts_are_told_and_register_80h_is_made_from_them() -> Result<(), Refusal> {
+    let mut memory = [0; RING_BYTES];
+    for why in 0..=15 {
+        let (mut chip, facts) = (decoding(&mut memory)?, facts(why));
+        assert_eq!(chip.sector(&spoilt(0, facts)), Ok(facts.verdict()), "{facts}");
+        assert_eq!((chip.why(), chip.read(TARSTA)), (facts, Ok(facts.verdict().tarsta())));
+        assert_eq!(chip.read(TCC), Ok(facts.is_good().into()), "{facts}");
+    }
+    Ok(())
+}
+
+#[test]
+fn facts_are_those_of_the_last_sector_that_was_taken() -> Result<(), Refusal> {
+    let mut memory = [0; RING_BYTES];
+    let (good, bad) = (facts(0), facts(WHY_SYNC | WHY_EDC));
+    let mut chip = decoding(&mut memory)?;
+    assert_eq!(chip.why(), good);
+    assert_eq!((chip.sector(&spoilt(0, bad)), chip.why()), (Ok(bad.verdict()), bad));
+    assert_eq!((chip.sector(&sector(0, 0x11)), chip.why()), (Err(Refusal::Held), bad));
+    assert_eq!((chip.sector(&[]), chip.why()), (Err(Refusal::WrongLength), bad));
+    assert_eq!((chip.srst(), chip.status(), chip.why()), (Ok(()), Ok(0), bad));
+    assert_eq!((chip.write(CTRL0, 0), chip.why()), (Ok(()), bad));
+    assert_eq!((chip.sector(&sector(0, 0x11)), chip.why()), (Err(Refusal::DecodingOff), bad));
+    assert_eq!((chip.read(TARSTA), chip.read(TARSTA), chip.why()), (Ok(STAERR), Ok(STAERR), bad));
+    assert_eq!(Chip::from_record(chip.record(), &mut []).why(), bad);
+    chip.write(CTRL0, DECEN)?;
+    for frame in 0..BLOCKS - 1 {
+        assert_eq!((chip.sector(&sector(frame, 0x11)), chip.why()), (Ok(GOOD), good));
+    }
+    assert_eq!((chip.sector(&spoilt(3, bad)), chip.why()), (Err(Refusal::NoRoom), good));
+    Ok(())
+}
+
+#[test]
+fn a_reset_forgets_the_facts() -> Result<(), Refusal> {
+    let mut memory = [0; RING_BYTES];
+    let mut chip = decoding(&mut memory)?;
+    assert_eq!(chip.sector(&sector(5, 0x11)), Ok(Verdict { staerr: false, hcei: true }));
+    assert_eq!((chip.why(), chip.why().to_string()), (facts(WHY_ADDRESS), "address".to_string()));
+    assert_eq!((chip.reset(), chip.why(), chip.read(TARSTA)), (Ok(()), facts(0), Ok(0)));
+    Ok(())
+}
+
+#[test]
 fn words_one_by_one() -> Result<(), Refusal> {
     let mut memory = [0; RING_BYTES];
     let mut chip = serving(&mut memory)?;
@@ -224,6 +287,8 @@ fn every_call_of_an_unsound_chip_is_refused() {
         ];
         assert_eq!(answers, [Err(Refusal::WrongLength); 14]);
         assert_eq!((chip.look(), words, chip.record()), (&[][..], [7; 2], record));
+        let stands = if record == [0; CHIP_WORDS] { 0 } else { 15 };
+        assert_eq!(chip.why(), facts(stands), "it has no reply, and reads the record as it stands");
     }
     assert_eq!(memory, [0xEE; RING_BYTES]);
 }

@@ -1,7 +1,9 @@
-//! Every constant and reply number of `include/cdrom.h` stands in the crate with the same value, and no other does.
-//! Both are read as text, so that neither can gain or lose a line unseen.
+//! Every constant and reply number of `include/cdrom.h` stands in the crate with the same value, and no other does; and
+//! every macro that takes something has its likeness here. Both are read as text, so that neither can gain or lose a
+//! line unseen.
 
-use cdrom::Refusal;
+use cdrom::registers::{HCEI, STAERR};
+use cdrom::{Facts, Refusal, WHY_EDC};
 use std::collections::BTreeMap;
 
 const HEADER: &str = include_str!("../../../include/cdrom.h");
@@ -21,13 +23,24 @@ const REFUSALS: [&str; 9] =
     ["WRONG_LENGTH", "NO_REGISTER", "OUT_OF_RANGE", "BARRED", "SWITCHES", "TOO_FEW", "DECODING_OFF", "HELD", "NO_ROOM"];
 /// Another name for a reply number.
 const ALIAS: &str = "BAD_ADDRESS";
+/// The macros with a parameter. The first two take an answer apart, as the crate's results do; the last is
+/// `Facts::verdict` and `Verdict::tarsta` in one.
+const MACROS: [&str; 3] = [
+    "NUMBER(answer) ((answer) & 0xFF)",
+    "RESULT(answer) ((answer) >> 8)",
+    "TARSTA_OF(why) ((((why) & 15) + CDROM_STAERR - CDROM_WHY_EDC) & (CDROM_STAERR | CDROM_HCEI))",
+];
 
 type Constants = BTreeMap<String, u64>;
 
-/// Each `#define` of a value; those with parameters take an answer apart, and the guard has no value.
+/// What each `#define` has behind `CDROM_`.
+fn defines() -> impl Iterator<Item = &'static str> {
+    HEADER.lines().filter_map(|line| line.strip_prefix("#define CDROM_"))
+}
+
+/// Each `#define` of a value; those with a parameter are `MACROS`, and the guard has no value.
 fn header() -> Constants {
-    let names = HEADER.lines().filter_map(|line| line.strip_prefix("#define CDROM_"));
-    let pairs = names.filter_map(|rest| rest.split_once(' ')).filter(|(name, _)| !name.contains('('));
+    let pairs = defines().filter_map(|rest| rest.split_once(' ')).filter(|(name, _)| !name.contains('('));
     let values = pairs.filter(|&(name, _)| name != ALIAS).map(|(name, rest)| (name, first_word(rest)));
     distinct(values.map(|(name, value)| (name.to_string(), number(value))))
 }
@@ -89,4 +102,15 @@ fn reply_numbers() {
         assert_eq!(format!("{refusal:?}"), camel(name));
     }
     assert!(HEADER.contains(&format!("#define CDROM_{ALIAS} CDROM_OUT_OF_RANGE\n")));
+}
+
+#[test]
+fn macros() {
+    let with_parameter = |define: &&str| define.split(' ').next().is_some_and(|name| name.contains('('));
+    assert_eq!(defines().filter(with_parameter).collect::<Vec<_>>(), MACROS);
+    for why in 0..=15 {
+        let tarsta_of = ((u16::from(why) & 15) + STAERR - u16::from(WHY_EDC)) & (STAERR | HCEI);
+        let facts = Facts::from_why(why).expect("0 to 15 are facts");
+        assert_eq!(tarsta_of, facts.verdict().tarsta(), "{why}");
+    }
 }

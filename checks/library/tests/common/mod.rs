@@ -2,11 +2,11 @@
 //! both on the same bytes, compares answers and bytes, and hands on what both
 //! answered.
 
-use cdrom::{Refusal, Verdict};
+use cdrom::{Facts, Refusal};
 use ecma130::Address;
 use model::Random;
 
-pub const GOOD: Verdict = Verdict { staerr: false, hcei: false };
+pub const GOOD: Facts = Facts { sync: false, mode: false, edc: false, address: false };
 
 pub fn seal(sector: &mut [u8], address: Address) -> Result<(), Refusal> {
     let mut other = sector.to_vec();
@@ -24,9 +24,11 @@ pub fn open(sector: &mut [u8]) -> Result<(), Refusal> {
     answer
 }
 
-pub fn judge(sector: &[u8], expected: Address) -> Result<Verdict, Refusal> {
-    let answer = cdrom::judge(sector, lent(expected));
-    assert_eq!(answer, ecma130::judge(sector, expected).map(verdict).map_err(refusal), "{expected:?}");
+/// `why` is compared too: each side has its weights written apart.
+pub fn judge(sector: &[u8], expected: Address) -> Result<Facts, Refusal> {
+    let (answer, other) = (cdrom::judge(sector, lent(expected)), ecma130::judge(sector, expected));
+    assert_eq!(answer, other.map(facts).map_err(refusal), "{expected:?}");
+    assert_eq!(answer.map(Facts::why).ok(), other.map(ecma130::Facts::why).ok(), "{expected:?}");
     answer
 }
 
@@ -38,8 +40,9 @@ fn lent(address: Address) -> cdrom::Address {
     cdrom::Address { minute: address.minute, second: address.second, frame: address.frame }
 }
 
-fn verdict(verdict: ecma130::Verdict) -> Verdict {
-    Verdict { staerr: verdict.staerr, hcei: verdict.hcei }
+fn facts(facts: ecma130::Facts) -> Facts {
+    let ecma130::Facts { sync, mode, edc, address } = facts;
+    Facts { sync, mode, edc, address }
 }
 
 fn refusal(refusal: ecma130::Refusal) -> Refusal {

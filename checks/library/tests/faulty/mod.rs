@@ -1,5 +1,6 @@
 //! A library that is right with a fault put into what it answers or leaves.
 
+use ecma130::Address;
 use library::record::Record;
 use library::{Answer, Call, Lent, Library, StandIn};
 
@@ -51,5 +52,13 @@ impl Library for Faulty<'_> {
 
     fn irq(&mut self, record: &mut Record) -> u32 {
         StandIn.irq(record)
+    }
+
+    fn why(&mut self, record: &mut Record) -> u32 {
+        StandIn.why(record)
+    }
+
+    fn judge(&mut self, sector: &mut [u8], expected: Address) -> Answer {
+        StandIn.judge(sector, expected)
     }
 }

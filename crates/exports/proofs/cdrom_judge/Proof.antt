@@ -11,8 +11,8 @@ at-requires c κs = search needs
 judge-requires : tie.Need-judge-requires
 judge-requires c κs = search needs
 
-tarsta-requires : tie.Need-tarsta-requires
-tarsta-requires c κs = search needs
+why-requires : tie.Need-why-requires
+why-requires c κs = search needs
 
 packed-requires : tie.Need-packed-requires
 packed-requires c κs = search needs
@@ -22,9 +22,9 @@ returns c =
     let s = c .before .before .before .before .before .before .args .sector .now in
     let judged = c .before .before .before .judge in
     c .packed .ensures
-    ∙ ap (packed (judged .result .number)) (c .before .tarsta .ensures)
+    ∙ ap (packed (judged .result .number)) (c .before .why .ensures)
     ∙ ap judged-word (judged .ensures)
     ∙ ap (judge-word s) (c .before .before .before .before .at .ensures)
 
 pub cdrom-judge-spec : {M : Type 1} → statement M
-cdrom-judge-spec = tie.close (tie.spec at-requires judge-requires tarsta-requires packed-requires returns)
+cdrom-judge-spec = tie.close (tie.spec at-requires judge-requires why-requires packed-requires returns)

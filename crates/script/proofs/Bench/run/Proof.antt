@@ -19,6 +19,9 @@ parse-requires c κs = search needs
 run-requires : tie.Need-run-requires
 run-requires c κs = search needs
 
+damage-after-requires : tie.Need-damage-after-requires
+damage-after-requires c κs = search needs
+
 wrapping-add-u64-requires : tie.Need-wrapping-add-u64-requires
 wrapping-add-u64-requires c κs = search needs
 
@@ -39,16 +42,17 @@ same-length-3 c = search needs
 
 returns-2 : tie.Need-returns-2
 returns-2 c =
-    let back = c .before .before .before .before .before .before .before .before .before .before in
+    let back = c .before .before .before .before .before .before .before .before .before .before .before .before in
     let a = back .before .before .before .before .before .before .before .before .before .before .before .args in
     let if1 = back .before .before .before .before .before .before .if1 in
     let parse = back .before .before .before .before .before .parse in
-    let run = back .before .run in
+    let run = back .run in
+    let damage = c .before .before .before .before .before .before .before .damage-after in
     let add = c .before .before .before .before .before .before .wrapping-add-u64 in
     let shown = c .before .before .before .before .shown in
     let print = c .before .before .before .print in (
-      runs (a .self) (a .memory .now) (a .sector .now) (a .line .now) (a .out .now) (if1 .left) _ (run .result) _ _ _ (add .result) _ (shown .result)
-          (parse .ensures) (run .ensures) (add .ensures) (shown .ensures) (print .ensures .0) (print .ensures .1 .0),
+      runs (a .self) (a .memory .now) (a .sector .now) (a .line .now) (a .out .now) (if1 .left) _ (run .result) (damage .result) _ _ _ (add .result) _ (shown .result)
+          (parse .ensures) (run .ensures) (damage .ensures) (add .ensures) (shown .ensures) (print .ensures .0) (print .ensures .1 .0),
       print .ensures .1 .1,
     )
 
@@ -59,6 +63,7 @@ run-spec =
     returns
     parse-requires
     run-requires
+    damage-after-requires
     wrapping-add-u64-requires
     shown-requires
     print-requires

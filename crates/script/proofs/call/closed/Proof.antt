@@ -41,6 +41,12 @@ enum-told-5 c = search needs
 refused-requires-5 : tie.Need-refused-requires-5
 refused-requires-5 c κs = search needs
 
+enum-told-6 : tie.Need-enum-told-6
+enum-told-6 c = search needs
+
+refused-requires-6 : tie.Need-refused-requires-6
+refused-requires-6 c κs = search needs
+
 returns : tie.Need-returns
 unfolding closed
 returns c = c .refused .ensures ∙ ap (closed (c .before .before .before .args .chip)) (sym (c .before .enum-told .given .1))
@@ -65,6 +71,10 @@ returns-6 : tie.Need-returns-6
 unfolding closed
 returns-6 c = c .refused5 .ensures ∙ ap (closed (c .before .before .before .args .chip)) (sym (c .before .enum-told5 .given .1))
 
+returns-7 : tie.Need-returns-7
+unfolding closed
+returns-7 c = c .refused6 .ensures ∙ ap (closed (c .before .before .before .args .chip)) (sym (c .before .enum-told6 .given .1))
+
 pub closed-spec : {M : Type 1} → statement M
 closed-spec =
     tie.close
@@ -81,9 +91,12 @@ closed-spec =
     refused-requires-4
     enum-told-5
     refused-requires-5
+    enum-told-6
+    refused-requires-6
     returns
     returns-2
     returns-3
     returns-4
     returns-5
-    returns-6)
+    returns-6
+    returns-7)

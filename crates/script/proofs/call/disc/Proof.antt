@@ -28,7 +28,7 @@ returns c =
     let number = c .before .before .disc-number in
     let R = a .ring .now in
     let S = a .sector .now in
-    ap (unchanged R S) (c .refused .ensures) ∙ disc-not (a .chip) R S (a .address) (a .byte) (number .result) (number .ensures) (if1 .taken)
+    ap (unchanged R S) (c .refused .ensures) ∙ disc-not (a .chip) R S (a .address) (a .byte) (number .result) (number .ensures) (a .damage) (if1 .taken)
 
 cast-unsealed : tie.Need-cast-unsealed
 cast-unsealed c =
@@ -48,6 +48,16 @@ unsealed-requires c κs =
 seal-requires : tie.Need-seal-requires
 seal-requires c κs = search needs
 
+scratch-requires : tie.Need-scratch-requires
+scratch-requires c κs =
+    let unsealed = c .before .before .before .before .before .before .before .unsealed in
+    let seal = c .before .before .before .seal in
+    let a = c .before .before .before .before .before .before .before .before .before .before .before .before .before .before .before .args in
+    let if1 = c .before .before .before .before .before .before .before .before .before .if1 in
+    let number = c .before .before .before .before .before .before .before .before .before .before .disc-number in
+    let size = admitted (a .chip) (a .ring .now) (a .sector .now) (a .address) (a .byte) (number .result) (number .ensures) (if1 .left) .0 in
+    seal .kept .0 ∙ unsealed .kept .0 ∙ size
+
 sector-requires : tie.Need-sector-requires
 sector-requires c κs = search needs
 
@@ -59,24 +69,26 @@ same-length-3 c = search needs
 
 same-length-4 : tie.Need-same-length-4
 same-length-4 c =
-    let unsealed = c .before .before .before .before .before .before .before .before .before .before .before .before .unsealed in
-    let seal = c .before .before .before .before .before .before .before .before .seal in
-    seal .kept .0 ∙ unsealed .kept .0
+    let scratch = c .before .before .before .before .before .before .before .before .scratch in
+    let seal = c .before .before .before .before .before .before .before .before .before .before .before .before .seal in
+    let unsealed = c .before .before .before .before .before .before .before .before .before .before .before .before .before .before .before .before .unsealed in
+    scratch .kept .0 ∙ seal .kept .0 ∙ unsealed .kept .0
 
 returns-2 : tie.Need-returns-2
 returns-2 c =
-    let sector3 = c .before .before .before .sector3 in
-    let seal = c .before .before .before .before .before .before .before .before .seal in
-    let back = c .before .before .before .before .before .before .before .before .before .before .before .before in
+    let brought = c .before .before .before .sector4 in
+    let scratch = c .before .before .before .before .before .before .before .before .scratch in
+    let seal = c .before .before .before .before .before .before .before .before .before .before .before .before .seal in
+    let back = c .before .before .before .before .before .before .before .before .before .before .before .before .before .before .before .before in
     let unsealed = back .unsealed in
     let if1 = back .before .before .if1 in
     let number = back .before .before .before .disc-number in
     let a = back .before .before .before .before .before .before .before .before .args in
     let R = a .ring .now in
     let S = a .sector .now in
-    ap (λ (r : Answer). record { answer = r; memory = sector3 .last .1 .0; sector = seal .last .0 }) (c .told .ensures)
-    ∙ ap (λ (l : Lent). record { answer = of-told (l .told); memory = l .ring; sector = seal .last .0 }) (sector3 .ensures)
-    ∙ disc-done (a .chip) R S (a .address) (a .byte) (number .result) (number .ensures) (if1 .left) (unsealed .last .0) (seal .last .0) (unsealed .ensures) (seal .ensures .1)
+    ap (λ (r : Answer). record { answer = r; memory = brought .last .1 .0; sector = scratch .last .0 }) (c .told .ensures)
+    ∙ ap (λ (l : Lent). record { answer = of-told (l .told); memory = l .ring; sector = scratch .last .0 }) (brought .ensures)
+    ∙ disc-done (a .chip) R S (a .address) (a .byte) (number .result) (number .ensures) (a .damage) (if1 .left) (unsealed .last .0) (seal .last .0) (scratch .last .0) (unsealed .ensures) (seal .ensures .1) (scratch .ensures)
 
 pub disc-spec : {M : Type 1} → statement M
 disc-spec =
@@ -90,6 +102,7 @@ disc-spec =
     cast-unsealed
     unsealed-requires
     seal-requires
+    scratch-requires
     sector-requires
     told-requires
     same-length-3

@@ -52,11 +52,12 @@ returns-2 c =
     let least = c .before .before .before .before .before .before .before .least-length in
     let answer = c .before .before .before .before .called in
     let C = a .chip in
+    let D = a .damage in
     let M = a .memory .now in
     let S = a .sector .now in
     let G = a .line in
     let e = least .ensures in
-    ap₂ (λ (x : Answered) (d : List ℕ). with-rest x d) (answer .ensures ∙ ap (λ (r : List ℕ). called C r S G) (least-take _ _ M e)) (least-drop _ _ M e)
+    ap₂ (λ (x : Answered) (d : List ℕ). with-rest x d) (answer .ensures ∙ ap (λ (r : List ℕ). called C D r S G) (least-take _ _ M e)) (least-drop _ _ M e)
     ∙ sym (if-false _ _ _ (if1 .left))
 
 pub run-spec : {M : Type 1} → statement M

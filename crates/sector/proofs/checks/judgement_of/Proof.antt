@@ -1,17 +1,32 @@
 -- `sector::checks::judgement_of` meets its contract. Assumes nothing.
-use Rattle.sector.proofs.Answers.{two-bits}
+use Rattle.sector.proofs.Answers.{four-facts}
 use borrow.Author.Needs.{needs}
 use Rattle.sector.proofs.checks.judgement_of.Statement.{statement}
 use Rattle.sector.proofs.checks.judgement_of.Tie as tie
 
-staerr-requires : tie.Need-staerr-requires
-staerr-requires c κs = search needs
+sync-holds-requires : tie.Need-sync-holds-requires
+sync-holds-requires c κs = search needs
+
+mode-holds-requires : tie.Need-mode-holds-requires
+mode-holds-requires c κs = search needs
+
+edc-holds-requires : tie.Need-edc-holds-requires
+edc-holds-requires c κs = search needs
 
 address-holds-requires : tie.Need-address-holds-requires
 address-holds-requires c κs = search needs
 
 returns : tie.Need-returns
-returns c = two-bits (c .before .before .before .args .sector .now) (c .before .before .before .args .address) _ _ (c .before .staerr .ensures) (c .address-holds .ensures)
+returns c =
+    let a = c .before .before .before .before .before .args in
+    four-facts (a .address) (a .sector .now) (c .before .before .before .sync-holds .ensures) (c .before .before .mode-holds .ensures) (c .before .edc-holds .ensures) (c .address-holds .ensures)
 
 pub judgement-of-spec : {M : Type 1} → statement M
-judgement-of-spec = tie.close (tie.spec staerr-requires address-holds-requires returns)
+judgement-of-spec =
+    tie.close
+    (tie.spec
+    sync-holds-requires
+    mode-holds-requires
+    edc-holds-requires
+    address-holds-requires
+    returns)

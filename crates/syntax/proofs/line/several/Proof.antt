@@ -48,46 +48,22 @@ returns-3 c =
     ∙ if-false _ _ _ (sym (equal2 .ensures) ∙ if2 .left)
     ∙ if-true _ _ _ (sym (equal3 .ensures) ∙ c .if3 .taken))
 
-slice-aggregate-equal-4 : tie.Need-slice-aggregate-equal-4
-slice-aggregate-equal-4 c = search needs
-
-equal-requires-4 : tie.Need-equal-requires-4
-equal-requires-4 c κs = search needs
+disc-requires : tie.Need-disc-requires
+disc-requires c κs = search needs
 
 returns-4 : tie.Need-returns-4
 unfolding several
 returns-4 c =
-    let equal = c .before .before .before .before .before .before .before .before .before .before .equal in
-    let if1 = c .before .before .before .before .before .before .before .before .before .if1 in
-    let equal2 = c .before .before .before .before .before .before .before .equal2 in
-    let if2 = c .before .before .before .before .before .before .if2 in
-    let equal3 = c .before .before .before .before .equal3 in
-    let if3 = c .before .before .before .if3 in
-    let equal4 = c .before .equal4 in
-    sym (if-false _ _ _ (sym (equal .ensures) ∙ if1 .left)
-    ∙ if-false _ _ _ (sym (equal2 .ensures) ∙ if2 .left)
-    ∙ if-false _ _ _ (sym (equal3 .ensures) ∙ if3 .left)
-    ∙ if-true _ _ _ (sym (equal4 .ensures) ∙ c .if4 .taken))
-
-bare-requires : tie.Need-bare-requires
-bare-requires c κs = search needs
-
-returns-5 : tie.Need-returns-5
-unfolding several
-returns-5 c =
-    let equal = c .before .before .before .before .before .before .before .before .before .before .before .equal in
-    let if1 = c .before .before .before .before .before .before .before .before .before .before .if1 in
-    let equal2 = c .before .before .before .before .before .before .before .before .equal2 in
-    let if2 = c .before .before .before .before .before .before .before .if2 in
-    let equal3 = c .before .before .before .before .before .equal3 in
-    let if3 = c .before .before .before .before .if3 in
-    let equal4 = c .before .before .equal4 in
-    let if4 = c .before .if4 in
-    c .bare .ensures
+    let equal = c .before .before .before .before .before .before .before .before .equal in
+    let if1 = c .before .before .before .before .before .before .before .if1 in
+    let equal2 = c .before .before .before .before .before .equal2 in
+    let if2 = c .before .before .before .before .if2 in
+    let equal3 = c .before .before .equal3 in
+    let if3 = c .before .if3 in
+    c .disc .ensures
     ∙ sym (if-false _ _ _ (sym (equal .ensures) ∙ if1 .left)
     ∙ if-false _ _ _ (sym (equal2 .ensures) ∙ if2 .left)
-    ∙ if-false _ _ _ (sym (equal3 .ensures) ∙ if3 .left)
-    ∙ if-false _ _ _ (sym (equal4 .ensures) ∙ if4 .left))
+    ∙ if-false _ _ _ (sym (equal3 .ensures) ∙ if3 .left))
 
 pub several-spec : {M : Type 1} → statement M
 several-spec =
@@ -102,8 +78,5 @@ several-spec =
     slice-aggregate-equal-3
     equal-requires-3
     returns-3
-    slice-aggregate-equal-4
-    equal-requires-4
-    returns-4
-    bare-requires
-    returns-5)
+    disc-requires
+    returns-4)

@@ -12,7 +12,7 @@ use Rattle.syntax.proofs.print.call_text.Lts as lts
 use Rattle.syntax.proofs.decimal.field.Reads as field-reads
 
 digits : (x : lts.Start (field-reads.Asked, field-reads.Learnt) reads.Pre reads.Post) → Within (take 3 rows) (x .args .s)
-digits x = within-take 3 rows (x .args .s) (within (x .args .s) (omega arith) (omega arith) (omega arith) (omega arith) (omega arith))
+digits x = within-take 3 rows (x .args .s) (within (x .args .s) (omega arith) (omega arith) (omega arith) (omega arith) (omega arith) (omega arith))
 
 slice-aggregate-field : tie.Need-slice-aggregate-field
 slice-aggregate-field c = search needs

@@ -22,7 +22,7 @@ struct own {
     uint16_t tcc, bufc, ttc;
     struct own_address expected;
     bool decen, held, hirq;
-    /* What failed of the last sector that was taken: sync 8, mode 4, EDC 2, address 1. 80h is made from it. */
+    /* What failed of the last sector that was stored: sync 8, mode 4, EDC 2, address 1. 80h is made from it. */
     uint8_t why;
     /* Registers as they are read. */
     uint8_t mbc, asctrl, status, bicctl, buflim, acctl;

@@ -102,7 +102,7 @@ uint32_t cdrom_edc(const uint8_t *bytes, size_t length);
 #define CDROM_LDDBH 0x3B  /* r: 0 */
 #define CDROM_APKSTA 0x3D /* w */
 #define CDROM_ASCSTA 0x3E /* w */
-#define CDROM_TARSTA 0x80 /* r: of the last sector that was taken; cdrom_chip_why says more */
+#define CDROM_TARSTA 0x80 /* r: of the last sector that was stored; cdrom_chip_why says more */
 #define CDROM_BICCTL 0x9A /* rw */
 #define CDROM_BUFLIM 0x9B /* w: 0 to the ring's blocks less 2 */
 #define CDROM_BUFC 0x9B   /* r: filled blocks */
@@ -193,7 +193,7 @@ uint32_t cdrom_chip_reset(cdrom_chip *chip);
  * a bad one; 9 at the stop. */
 uint32_t cdrom_chip_sector(cdrom_chip *chip, uint8_t *ring, size_t ring_length, const uint8_t *sector, size_t length);
 
-/* Why the last sector that was taken is not good: the CDROM_WHY_.. of all that failed, 0 for a good one, 0..15. Register 80h is
+/* Why the last sector that was stored is not good: the CDROM_WHY_.. of all that failed, 0 for a good one, 0..15. Register 80h is
  * CDROM_TARSTA_OF it. 0 from an opening or a chip reset to the first sector; a refused sector, DECEN low, SRST and reads keep it. It
  * has no reply number, and reads the record as it stands. */
 uint32_t cdrom_chip_why(const cdrom_chip *chip);

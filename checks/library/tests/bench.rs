@@ -200,7 +200,7 @@ fn memory_of_any_length() {
 fn a_refused_sector_line_changes_no_byte() {
     let opened = b"call=open ring=3\n".to_vec();
     let decoding = [&opened, SWITCHES].concat();
-    let hurt = |before: &[u8]| [before, b"call=scratch from=0 count=2352\n"].concat();
+    let scratched = |before: &[u8]| [before, b"call=scratch from=0 count=2352\n"].concat();
     let held = [&decoding[..], b"call=sector min=0 sec=9 frame=9 fill=8\n"].concat();
     let full = [&decoding[..], SECTOR, b"call=sector min=0 sec=2 frame=1 fill=9\n"].concat();
     let cases = [
@@ -211,10 +211,10 @@ fn a_refused_sector_line_changes_no_byte() {
         (&opened, b"call=sector min=0 sec=2 frame=0 fill=5\n", "answer=7"),
         (&held, b"call=sector min=0 sec=2 frame=0 fill=5\n", "answer=8"),
         (&full, b"call=sector min=0 sec=2 frame=2 fill=5\n", "answer=9"),
-        (&hurt(&decoding), b"call=sector min=0 sec=2 frame=0 fill=256\n", "answer=3"),
-        (&hurt(&opened), b"call=sector min=0 sec=2 frame=0 fill=5\n", "answer=7"),
-        (&hurt(&held), b"call=sector min=0 sec=2 frame=0 fill=5\n", "answer=8"),
-        (&hurt(&full), b"call=sector min=0 sec=2 frame=2 fill=5\n", "answer=9"),
+        (&scratched(&decoding), b"call=sector min=0 sec=2 frame=0 fill=256\n", "answer=3"),
+        (&scratched(&opened), b"call=sector min=0 sec=2 frame=0 fill=5\n", "answer=7"),
+        (&scratched(&held), b"call=sector min=0 sec=2 frame=0 fill=5\n", "answer=8"),
+        (&scratched(&full), b"call=sector min=0 sec=2 frame=2 fill=5\n", "answer=9"),
     ];
     for (before, line, number) in cases {
         let text = [before, line].concat();

@@ -2,7 +2,7 @@
 //! asks for is often possible: blind lines would hardly ever get as far as
 //! a transfer.
 
-mod stories;
+mod scratches;
 
 use crate::bench::Bench;
 use crate::call::{Call, MAX_LINE_BYTES};
@@ -144,7 +144,7 @@ impl Writer {
     fn call_at_rest(&mut self, chip: &Chip) -> Call {
         match self.random.below(100) {
             0..=26 => self.fill(chip),
-            27..=29 => self.scratch_story(chip),
+            27..=29 => self.scratch_plan(chip),
             30..=54 => self.serve(chip),
             55..=64 => self.packet_command(chip),
             65..=72 => self.read(),
@@ -179,7 +179,7 @@ impl Writer {
     }
 }
 
-/// Steps towards something that can happen.
+/// Steps towards other_calls that can happen.
 impl Writer {
     fn then(&mut self, first: Call, rest: &[Call]) -> Call {
         self.plan.extend(rest);

@@ -43,7 +43,7 @@ const PARITY_SCRATCH: &str = "call=scratch from=2068 count=284";
 const EDGES: [usize; 8] = [0, 12, 15, 16, 2064, 2068, 2076, 2352];
 
 /// Calls that are no opening and take no sector on a chip that decodes and is held, or has a scratch waiting.
-const BYSTANDERS: [&[&str]; 11] = [
+const OTHER_CALLS: [&[&str]; 11] = [
     &[],
     &["call=srst"],
     &["call=look", "call=status", "call=read reg=128", "call=read reg=36"],
@@ -85,7 +85,7 @@ fn whole_listing() {
 
 #[test]
 fn a_scratch_waits_for_a_sector_that_is_stored() {
-    for lines in BYSTANDERS {
+    for lines in OTHER_CALLS {
         let mut bench = decoding();
         why_after(&mut bench, &[USER_SCRATCH]);
         let text = [lines, &[DECODER_OFF, DECODER_ON, SECTOR]].concat();
@@ -131,7 +131,7 @@ fn a_scratch_goes() {
 
 #[test]
 fn the_facts_of_a_stored_sector_stay() {
-    for lines in BYSTANDERS {
+    for lines in OTHER_CALLS {
         let mut bench = decoding();
         assert_eq!(why_after(&mut bench, &[MODE_SCRATCH, SECTOR]), 6);
         for line in lines {
@@ -157,12 +157,12 @@ fn the_facts_of_the_last_stored_sector_are_kept() {
 /// Scrambling is XOR, so that what arrives inverted is inverted in the block too.
 #[test]
 fn the_block_holds_what_arrived() {
-    for (line, hurt) in [(USER_SCRATCH, 16..21), (MODE_SCRATCH, 15..16), (PARITY_SCRATCH, 2068..2352)] {
+    for (line, inverted) in [(USER_SCRATCH, 16..21), (MODE_SCRATCH, 15..16), (PARITY_SCRATCH, 2068..2352)] {
         let mut bench = decoding();
         why_after(&mut bench, &[line, SECTOR]);
         let mut clear = sealed(Address::new(0, 2, 0), 7).unwrap();
         open(&mut clear).unwrap();
-        clear[hurt].iter_mut().for_each(|byte| *byte ^= 0xFF);
+        clear[inverted].iter_mut().for_each(|byte| *byte ^= 0xFF);
         let memory = bench.into_memory();
         assert!(memory[..SECTOR_BYTES] == clear, "{line}");
         assert!(memory[SECTOR_BYTES..BLOCK_BYTES].iter().all(|&byte| byte == 0));
@@ -170,11 +170,11 @@ fn the_block_holds_what_arrived() {
 }
 
 /// What must fail, told from the fields that a run touches. An empty run touches none.
-fn why_of(hurt: &Range<usize>, sector: Address, expected: Address) -> u16 {
-    let touches = |field: Range<usize>| hurt.start.max(field.start) < hurt.end.min(field.end);
+fn why_of(inverted: &Range<usize>, sector: Address, expected: Address) -> u16 {
+    let touches = |field: Range<usize>| inverted.start.max(field.start) < inverted.end.min(field.end);
     let mut header = sector.bcd();
     for (place, byte) in header.iter_mut().enumerate() {
-        *byte ^= 0xFF * hurt.contains(&(12 + place)) as u8;
+        *byte ^= 0xFF * inverted.contains(&(12 + place)) as u8;
     }
     let (sync, mode, edc) = (touches(0..12), touches(15..16), touches(0..2068));
     8 * sync as u16 + 4 * mode as u16 + 2 * edc as u16 + (header != expected.bcd()) as u16
@@ -193,7 +193,7 @@ fn line_of(name: &str, address: Address) -> String {
 
 /// Every start of a run, with ends beside it, at every edge of a field and behind it, and at the sector's end.
 #[test]
-fn a_run_hurts_the_fields_that_it_touches() {
+fn a_run_damages_the_fields_that_it_touches() {
     let mut bench = Bench::new();
     for from in 0..=SECTOR_BYTES {
         let ends = EDGES.iter().flat_map(|&edge| [edge, edge + 1]).chain([from, from + 1, from + 2]);
@@ -202,13 +202,13 @@ fn a_run_hurts_the_fields_that_it_touches() {
     }
 }
 
-fn hold_run(bench: &mut Bench, hurt: Range<usize>) {
+fn hold_run(bench: &mut Bench, inverted: Range<usize>) {
     for (sector, expected) in ADDRESSES {
-        let scratch = format!("call=scratch from={} count={}", hurt.start, hurt.len());
+        let scratch = format!("call=scratch from={} count={}", inverted.start, inverted.len());
         why_after(bench, &[OPEN, &line_of("address", expected)]);
         why_after(bench, &DECODING);
         let found = why_after(bench, &[&scratch, &format!("{} fill=7", line_of("sector", sector))]);
-        assert_eq!(found, why_of(&hurt, sector, expected), "{hurt:?} of {sector:?}");
+        assert_eq!(found, why_of(&inverted, sector, expected), "{inverted:?} of {sector:?}");
     }
 }
 
@@ -238,6 +238,6 @@ fn inverted_numbers_of_an_address() {
 fn nine_values_of_why_can_come() {
     let starts = 0..=SECTOR_BYTES;
     let runs = starts.flat_map(|from| (from..=SECTOR_BYTES).map(move |end| from..end));
-    let all = runs.flat_map(|hurt| ADDRESSES.map(|(sector, expected)| why_of(&hurt, sector, expected)));
+    let all = runs.flat_map(|inverted| ADDRESSES.map(|(sector, expected)| why_of(&inverted, sector, expected)));
     assert_eq!(all.collect::<BTreeSet<_>>().into_iter().collect::<Vec<_>>(), [0, 1, 2, 3, 6, 7, 10, 11, 15]);
 }

@@ -18,14 +18,14 @@ use Rattle.controller.specs.declared.state.Controller.{Controller}
 use Rattle.controller.specs.declared.step.Step.{Step}
 use Rattle.ring.specs.Memory.{base}
 use Rattle.outcomes.proofs.Consistent.{window-end}
-use Rattle.chip.specs.Calls.{next-word, word-told}
+use Rattle.chip.specs.Calls.{next-place, next-word, word-told}
 use Rattle.chip.specs.Chip.{ring-fits, finished}
 use Rattle.chip.specs.Sound.{sound}
 use Rattle.chip.specs.declared.Chip.{Chip}
 use Rattle.chip.specs.declared.Word.the-variants.{Handed, Refused}
 use Rattle.chip.specs.declared.WordTold.{WordTold}
 use Rattle.chip.proofs.Sounds.{RunningFacts, SoundFacts, sound-facts, facts-sound}
-use Rattle.burst.specs.Burst.{Run, run, prepend, by-word, host-words, ahead, advanced, next-place}
+use Rattle.burst.specs.Burst.{Run, run, prepend, by-word, host-words, ahead, advanced}
 
 -- k more words, none of them the block's last
 pub record Inside (c : Chip) (ring : List ℕ) (k : ℕ) : Type 0 where

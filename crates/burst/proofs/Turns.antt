@@ -10,12 +10,12 @@ use borrow.Author.Tests.{ne-eqb}
 use Rattle.laws.specs.Bytes.{words-at}
 use Rattle.laws.proofs.Choice.{if-false}
 use Rattle.laws.proofs.Words.{words-length}
-use Rattle.chip.specs.Calls.{word-told, word-number}
+use Rattle.chip.specs.Calls.{next-place, word-told, word-number}
 use Rattle.chip.specs.declared.Chip.{Chip}
 use Rattle.chip.specs.declared.Word.{Word}
 use Rattle.chip.specs.declared.Word.the-variants.{Handed, Refused}
 use Rattle.chip.specs.declared.WordTold.{WordTold}
-use Rattle.burst.specs.Burst.{Run, run, prepend, by-word, host-words, told-of, written, ahead, advanced, next-place, following}
+use Rattle.burst.specs.Burst.{Run, run, prepend, by-word, host-words, told-of, written, ahead, advanced, following}
 use Rattle.burst.specs.declared.Burst.{Burst}
 use Rattle.burst.proofs.Blocks.{inside-of, run-opened, inside-run}
 

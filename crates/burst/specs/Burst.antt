@@ -1,13 +1,11 @@
 -- Host words one after the other (paper 01, "Host and transfers"): so many single words, until one is refused. Assumes nothing.
-use Prim.Native.Nat.{ℕ, zero, suc, _+_, _-_, _*_}
+use Prim.Native.Nat.{ℕ, zero, suc, _+_, _-_}
 use mathlib.Core.Bool.{_&&_}
 use mathlib.Core.List.{List, [], _∷_, _++_}
 use lib.Dec.{eqb}
 use lib.ListN.{length, drop}
 use Rattle.laws.specs.Choice.{if_then_else_}
-use Rattle.controller.specs.Fields.{_▹_, position≔}
-use Rattle.ring.specs.Memory.{base}
-use Rattle.chip.specs.Chip.{ring-fits}
+use Rattle.chip.specs.Chip.{ring-fits, at-position}
 use Rattle.chip.specs.Calls.{word-told}
 use Rattle.chip.specs.Sound.{sound}
 use Rattle.chip.specs.declared.Chip.{Chip}
@@ -53,11 +51,7 @@ ahead c ring =
 
 -- the chip k words on in its block
 abbrev pub advanced : Chip → ℕ → Chip
-advanced c k = record { controller = c .controller ▹ position≔ (c .controller .transfer .position + k); place = c .place }
-
--- the first byte of the word that the host reads next
-abbrev pub next-place : Chip → ℕ
-next-place c = base (c .place .t) + c .controller .window .offset + 2 * c .controller .transfer .position
+advanced c k = at-position c (c .controller .transfer .position + k)
 
 -- what follows the words of a turn: the rest of the run, or the refusal of the first word
 abbrev pub following : ℕ → Burst → Chip → List ℕ → Run

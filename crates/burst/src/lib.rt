@@ -11,8 +11,8 @@ ghost use mathlib.Core.Path.{_≡_};
 ghost use Prim.Native.Nat.{_+_, _<_, _≤_};
 ghost use lib.ListN.{length, take, drop};
 ghost use Rattle.laws.specs.Bytes.{words-at};
-ghost use Rattle.chip.specs.Calls.{next-word, word-number};
-ghost use Rattle.burst.specs.Burst.{host-words, told-of, written, prepend, ahead, advanced, next-place, following};
+ghost use Rattle.chip.specs.Calls.{next-place, next-word, word-number};
+ghost use Rattle.burst.specs.Burst.{host-words, told-of, written, prepend, ahead, advanced, following};
 
 // The chip after a burst, how many words were handed over, and the number of the refusal that ended it, or 0.
 pub struct Burst {

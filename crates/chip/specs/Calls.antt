@@ -73,9 +73,12 @@ look-part c ring =
 unfoldable pub looked : Chip → List ℕ → List ℕ
 looked c ring = take (look-part c ring .size) (drop (look-part c ring .start) ring)
 
--- the word that the host would read next: of block T, at the window's offset and the transfer's position
+-- the first byte of the word that the host would read next: of block T, at the window's offset and the transfer's position
+abbrev pub next-place : Chip → ℕ
+next-place c = base (c .place .t) + c .controller .window .offset + 2 * c .controller .transfer .position
+
 abbrev pub next-word : Chip → List ℕ → ℕ
-next-word c ring = word-at ring (base (c .place .t) + c .controller .window .offset + 2 * c .controller .transfer .position)
+next-word c ring = word-at ring (next-place c)
 
 -- a word is handed over where the controller's step is done, else its refusal
 abbrev pub word-by : ℕ → ℕ → Word

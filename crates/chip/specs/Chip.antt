@@ -7,6 +7,7 @@ use lib.Dec.{leb, eqb}
 use lib.ListN.{length}
 use Rattle.laws.specs.Choice.{if_then_else_}
 use Rattle.reply.specs.Reply.{refusal, answer}
+use Rattle.controller.specs.Fields.{_▹_, position≔}
 use Rattle.controller.specs.State.{initial}
 use Rattle.controller.specs.declared.step.Step.{Step}
 use Rattle.ring.specs.Place as ring
@@ -24,6 +25,10 @@ unfoldable pub opened : ℕ → Told
 opened n =
     if leb 3 n && leb n 255 then record { chip = record { controller = initial; place = ring.opened n }; reply = answer 0 }
     else refused (record { controller = initial; place = ring.opened 0 }) 1
+
+-- the chip at another position in its transfer
+abbrev pub at-position : Chip → ℕ → Chip
+at-position c p = record { controller = c .controller ▹ position≔ p; place = c .place }
 
 -- the lent ring has N blocks
 abbrev pub ring-fits : Chip → List ℕ → Bool

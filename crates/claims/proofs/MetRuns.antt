@@ -1,5 +1,5 @@
 -- The runs of Met: of the row machine, and so of a machine that simulates it. Assumes nothing.
-use Prim.Native.Nat.{ℕ, _≤_}
+use Prim.Native.Nat.{ℕ}
 use mathlib.Core.Path.{_≡_, refl, ap, _∙_}
 use mathlib.Core.Bool.{true}
 use mathlib.Core.List.{List, [], _∷_, _++_}
@@ -21,7 +21,7 @@ use Rattle.outcomes.specs.Row.{row-answer, row-step, the-row}
 use Rattle.chip.specs.Machine.{the-chip}
 use Rattle.claims.specs.Refinement.{Simulation}
 use Rattle.claims.specs.Runs.{write, read, command, srst, disc, set-up, restart, transfer, ok, Gives, Met, MetClaim}
-use Rattle.claims.proofs.Runs.{frame, Ran, calls, _then_, opened, by-row, decoded, filled, own, first, second, unhidden, same-answers}
+use Rattle.claims.proofs.Runs.{frame, Ran, calls, _then_, opened, by-row, decoded, filled, own, first, second, by-simulation}
 
 module _ (u : List ℕ) (size : length u ≡ 2352) where
   other-frame : frame 1 ≡ frame 5 → ⊥
@@ -51,17 +51,13 @@ module _ (u : List ℕ) (size : length u ≡ 2352) where
       }
 
 module _ (S : Simulation the-chip the-row) where
-  pub by-chip : {n : ℕ} {cs : List Call} {rs : List Answer} → 3 ≤ n → n ≤ 255 → unhidden cs ≡ true → Gives the-row n cs rs → Gives the-chip n cs rs
-  by-chip {n} {cs} low high plainly g =
-      record { given = λ x size. same-answers S cs plainly (the-chip .opened n x) (the-row .opened n x) (S .opened n low high x size) ∙ g .given x size }
-
   pub met : MetClaim
   met u size =
       let m = row-met u size in
       record {
-        words-handed = by-chip (omega arith) (omega arith) refl (m .words-handed);
-        bad-then-restarted = by-chip (omega arith) (omega arith) refl (m .bad-then-restarted);
-        aborted-in-block = by-chip (omega arith) (omega arith) refl (m .aborted-in-block);
-        smaller-stops = by-chip (omega arith) (omega arith) refl (m .smaller-stops);
-        larger-stores = by-chip (omega arith) (omega arith) refl (m .larger-stores);
+        words-handed = by-simulation S (omega arith) (omega arith) refl (m .words-handed);
+        bad-then-restarted = by-simulation S (omega arith) (omega arith) refl (m .bad-then-restarted);
+        aborted-in-block = by-simulation S (omega arith) (omega arith) refl (m .aborted-in-block);
+        smaller-stops = by-simulation S (omega arith) (omega arith) refl (m .smaller-stops);
+        larger-stores = by-simulation S (omega arith) (omega arith) refl (m .larger-stores);
       }

@@ -19,11 +19,10 @@ use Rattle.controller.specs.Transfer.{settled, concluded}
 use Rattle.controller.specs.Write as registers
 use Rattle.outcomes.specs.Machine.{Call, plain, sector, look, word, Answer, replied, refused}
 use Rattle.outcomes.specs.Row.{row-answer, row-step, the-row}
-use Rattle.chip.specs.Machine.{the-chip}
 use Rattle.claims.specs.NumbersMet.{NumbersMet, NumbersMetClaim}
 use Rattle.claims.specs.Runs.{write, read, set-window as window, command, disc, restart, ok, Gives}
-use Rattle.claims.proofs.Refines.{chip-simulates, refines-opened}
-use Rattle.claims.proofs.Runs.{frame, Ran, calls, _then_, opened, by-row, decoded, filled, own, first, unhidden, same-answers}
+use Rattle.claims.proofs.Refines.{chip-simulates}
+use Rattle.claims.proofs.Runs.{frame, Ran, calls, _then_, opened, by-row, decoded, filled, own, first, by-simulation}
 
 module _ (u : List ℕ) (size : length u ≡ 2352) where
   other-frame : frame 1 ≡ frame 5 → ⊥
@@ -55,14 +54,10 @@ module _ (u : List ℕ) (size : length u ≡ 2352) where
         eight-and-nine = by-row (first u size then held then calls (window 12 2 ∷ look ∷ []) _);
       }
 
-by-chip : {cs : List Call} {rs : List Answer} → unhidden cs ≡ true → Gives the-row 3 cs rs → Gives the-chip 3 cs rs
-by-chip {cs} plainly g =
-    record {
-      given = λ x size.
-          same-answers chip-simulates cs plainly (the-chip .opened 3 x) (the-row .opened 3 x) (refines-opened 3 (omega arith) (omega arith) x size)
-          ∙ g .given x size;
-    }
-
 pub numbers-met : NumbersMetClaim
 numbers-met u size =
-    record { one-to-seven = by-chip refl (row-numbers u size .one-to-seven); eight-and-nine = by-chip refl (row-numbers u size .eight-and-nine) }
+    let rows = row-numbers u size in
+    record {
+      one-to-seven = by-simulation chip-simulates (omega arith) (omega arith) refl (rows .one-to-seven);
+      eight-and-nine = by-simulation chip-simulates (omega arith) (omega arith) refl (rows .eight-and-nine);
+    }

@@ -1,7 +1,8 @@
 -- The table Pins holds. Assumes nothing.
-use mathlib.Core.Path.{refl, _∙_}
+use mathlib.Core.Path.{refl}
+use mathlib.Core.Bool.{true}
 use native.Mathlib.Omega.{arith}
-use Rattle.controller.specs.Fields.{_▹_, tcc≔, bufc≔, ttc≔, expected≔, buflim≔, mbc≔, received≔}
+use Rattle.controller.specs.Fields.{_▹_, tcc≔, bufc≔, ttc≔, expected≔, buflim≔, judgement≔, mbc≔, received≔}
 use Rattle.controller.specs.State.{initial}
 use Rattle.outcomes.specs.Row.{the-row}
 use Rattle.ring.specs.Place.{at}
@@ -11,10 +12,9 @@ use Rattle.chip.specs.Sound.{sound}
 use Rattle.claims.specs.Cases.{address}
 use Rattle.claims.specs.Pins.{chip, five, with-window, with-atlim, running, resting, Pins}
 use Rattle.claims.specs.Refinement.{Simulation}
-use Rattle.claims.proofs.MetRuns.{by-chip}
 use Rattle.claims.proofs.PinsCalls.{twenty, forty, thirty-one, look-block, lent-3, lent-255, outside, inside}
 use Rattle.claims.proofs.PinsRuns.{wrong-code, why-kept, look-headers}
-use Rattle.claims.proofs.Runs.{same-answers, telling-simulates}
+use Rattle.claims.proofs.Runs.{by-simulation, telling-simulates}
 
 module _ (S : Simulation the-chip the-row) where
   pub pins : Pins
@@ -24,10 +24,9 @@ module _ (S : Simulation the-chip the-row) where
         twenty = twenty;
         forty = forty;
         thirty-one = thirty-one;
-        wrong-code = λ u k v h. by-chip S (omega arith) (omega arith) refl (wrong-code u k v h);
-        why-kept = λ u k v h.
-            record { given = λ x size. same-answers (telling-simulates S) _ refl _ _ (S .opened 3 (omega arith) (omega arith) x size) ∙ why-kept u k v h .given x size };
-        look-headers = λ u size. by-chip S (omega arith) (omega arith) refl (look-headers u size);
+        wrong-code = λ u k v h. by-simulation S (omega arith) (omega arith) refl (wrong-code u k v h);
+        why-kept = λ u k v h. by-simulation (telling-simulates S) (omega arith) (omega arith) refl (why-kept u k v h);
+        look-headers = λ u size. by-simulation S (omega arith) (omega arith) refl (look-headers u size);
         look-block = look-block;
         lent-3 = lent-3;
         lent-255 = lent-255;
@@ -75,4 +74,5 @@ module _ (S : Simulation the-chip the-row) where
         atlim-32 = outside (with-atlim 32) refl;
         packet-5 = inside (five (initial ▹ received≔ 5)) refl;
         packet-6 = outside (five (initial ▹ received≔ 6)) refl;
+        facts-15 = inside (five (initial ▹ judgement≔ (record { sync = true; mode = true; edc = true; address = true }))) refl;
       }

@@ -11,7 +11,7 @@ use Rattle.scramble.specs.Scramble.{scrambled}
 use Rattle.scramble.proofs.Scrambled.{scrambled-twice, length-scrambled}
 use Rattle.sector.specs.Address.{next}
 use Rattle.sector.specs.Calls.{judge-answer}
-use Rattle.sector.specs.Claims.{verdict, elsewhere, damaged as code-damaged}
+use Rattle.sector.specs.Claims.{verdict, address-alone, facts-of-change}
 use Rattle.sector.specs.Judge.{judgement, no-facts}
 use Rattle.sector.specs.Receive.{received}
 use Rattle.sector.specs.Sector.{body, framed}
@@ -49,7 +49,7 @@ module _ (u : List ℕ) (k v : ℕ) (h : GivenCode u k v) where
       ∙ ap (λ (j : Judgement). record { number = 0; judgement = j }) (judged-own (frame 1) u (h .size))
 
   -- no other fact is of its place
-  edc-alone : code-damaged k ≡ record { sync = false; mode = false; edc = true; address = false }
+  edc-alone : facts-of-change k ≡ record { sync = false; mode = false; edc = true; address = false }
   edc-alone =
       let behind = h .behind in
       simp (le-ltb k 12 (omega arith), ne-eqb k 15 (λ z. omega arith), lt-ltb k 2068 (h .before), le-leb 12 k (omega arith), le-ltb k 15 (omega arith))
@@ -59,7 +59,7 @@ module _ (u : List ℕ) (k v : ℕ) (h : GivenCode u k v) where
   received-so =
       ap (λ (l : List ℕ). record { bytes = l; judgement = judgement (frame 1) l }) (scrambled-twice changed whole)
       ∙ ap (λ (j : Judgement). record { bytes = changed; judgement = j })
-      (judged-facts changed (frame 1) (code-damaged k) (damage-holds (framed (frame 1) u) (frame 1) k v (bytes-framed (frame 1) u refl (h .bytes)) sealed-well (h .byte) (h .other)) ∙ edc-alone)
+      (judged-facts changed (frame 1) (facts-of-change k) (damage-holds (framed (frame 1) u) (frame 1) k v (bytes-framed (frame 1) u refl (h .bytes)) sealed-well (h .byte) (h .other)) ∙ edc-alone)
 
   pub wrong-code :
       Gives the-row 3
@@ -74,10 +74,10 @@ module _ (u : List ℕ) (k v : ℕ) (h : GivenCode u k v) where
 
   -- the rows between: with a sector of another place stored, after the restart, with a good one, and with the changed one behind it
   abbrev misplaced : Row
-  misplaced = record { controller = decoding 0 ▹ bufc≔ 1 ▹ judgement≔ elsewhere ▹ held≔ true; blocks = 3; row = [] }
+  misplaced = record { controller = decoding 0 ▹ bufc≔ 1 ▹ judgement≔ address-alone ▹ held≔ true; blocks = 3; row = [] }
 
   abbrev restarted : Row
-  restarted = record { controller = decoding 0 ▹ judgement≔ elsewhere; blocks = 3; row = [] }
+  restarted = record { controller = decoding 0 ▹ judgement≔ address-alone; blocks = 3; row = [] }
 
   abbrev one-good : Row
   one-good = filled 1 (framed (frame 0) u ∷ [])

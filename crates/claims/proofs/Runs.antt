@@ -1,6 +1,6 @@
 -- What the runs share: the row machine's answers and its state after a list of calls, sealed sectors among them; and that the chip's runs
 -- are the row machine's. Assumes nothing.
-use Prim.Native.Nat.{ℕ, _+_}
+use Prim.Native.Nat.{ℕ, _+_, _≤_}
 use mathlib.Core.Path.{_≡_, refl, ap, ap₂, _∙_}
 use mathlib.Core.Bool.{Bool, true, false, _&&_, not}
 use mathlib.Core.List.{List, [], _∷_, _++_}
@@ -10,7 +10,7 @@ use lib.ListN.{length}
 use borrow.Author.Tests.{eq-eqb, not-true}
 use Rattle.laws.specs.Choice.{if_then_else_}
 use Rattle.laws.proofs.Choice.{left-true, right-true}
-use Rattle.sector.specs.Claims.{elsewhere}
+use Rattle.sector.specs.Claims.{address-alone}
 use Rattle.sector.specs.Judge.{good, judgement, no-facts, why}
 use Rattle.sector.specs.Receive.{received}
 use Rattle.sector.specs.Sector.{framed, sealed}
@@ -119,7 +119,7 @@ module _ (u : List ℕ) (size : length u ≡ 2352) where
   own f = judged-own (frame f) u size
 
   -- frame 5 where frame 0 is expected
-  pub not-expected : judgement (frame 0) (framed (frame 5) u) ≡ elsewhere
+  pub not-expected : judgement (frame 0) (framed (frame 5) u) ≡ address-alone
   not-expected =
       judged-other (frame 5) u size (frame 0) refl refl (λ e. let z : _≡_ {A = ℕ} 0 5 = ap (λ (a : Address). a .frame) e in omega arith)
 
@@ -154,6 +154,10 @@ module _ {M R : Machine} (S : Simulation M R) where
       let shown = not-true (hidden c) (left-true (not (hidden c)) (unhidden cs) plainly) in
       ap₂ (λ (a : Answer) (rest : List Answer). a ∷ rest) (simp shown at (S .answer c s r h))
       (same-answers cs (right-true (not (hidden c)) (unhidden cs) plainly) (M .step c s) (R .step c r) (S .step c s r h))
+
+  pub by-simulation : {n : ℕ} {cs : List Call} {rs : List Answer} → 3 ≤ n → n ≤ 255 → unhidden cs ≡ true → Gives R n cs rs → Gives M n cs rs
+  by-simulation {n} {cs} low high plainly g =
+      record { given = λ x size. same-answers cs plainly (M .opened n x) (R .opened n x) (S .opened n low high x size) ∙ g .given x size }
 
   pub same-state : (cs : List Call) (s : M .State) (r : R .State) → S .Related s r → S .Related (after M cs s) (after R cs r)
   same-state [] s r h = h

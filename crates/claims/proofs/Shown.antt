@@ -5,7 +5,7 @@ use mathlib.Core.Bool.{Bool, true, false, _&&_, _||_, not, false≢true}
 use mathlib.Core.List.{List, [], _∷_}
 use lib.Dec.{eqb, leb, ltb}
 use lib.ListN.{length, take, drop, getD}
-use borrow.Author.Tests.{eqb-true}
+use borrow.Author.Tests.{eqb-true, eqb-false}
 use Rattle.laws.specs.Choice.{if_then_else_}
 use Rattle.laws.specs.Numbers.{weight}
 use Rattle.laws.proofs.Choice.{if-case, if-true, if-false, left-true, right-true}
@@ -353,6 +353,23 @@ bufc-shows s h =
     ap (replied 0)
     (h .invariant .consistent .buffered ∙ ap (λ (k : ℕ). k + weight (s .controller .counts .held) 1) (sym (h .good)))
 
+-- a sector that is stored is answered by the byte of its judgement
+counted-reply : (c : Controller) (j : Judgement) → counted c j .reply ≡ record { number = 0; result = tarsta-byte j }
+unfolding counted
+counted-reply c j = if-case (λ (s : Step). s .reply ≡ record { number = 0; result = tarsta-byte j }) (good j) _ _ (λ _. refl) (λ _. refl)
+
+stored-shows : (x : List ℕ) (s : Row) → number (row-answer (sector x) s) ≡ 0
+    → row-answer (sector x) s ≡ replied 0 (tarsta-byte (received (s .controller .expected) x .judgement))
+unfolding row-answer
+stored-shows x s z = by (sector-number x s) (eqb (sector-number x s) 0) refl z
+  where
+    by : (k : ℕ) (e : Bool) → eqb k 0 ≡ e → number (if e then answered (sector-step x s) else replied k 0) ≡ 0
+        → (if e then answered (sector-step x s) else replied k 0) ≡ replied 0 (tarsta-byte (received (s .controller .expected) x .judgement))
+    by k true e _ =
+        let j = received (s .controller .expected) x .judgement in
+        ap (λ (r : Reply). replied (r .number) (r .result)) (concluded-reply (counted (s .controller) j) ∙ counted-reply (s .controller) j)
+    by k false e w = absurd (eqb-false k 0 e w)
+
 tarsta-shows : (s : Row) → row-answer (plain (Read 0x80)) s ≡ replied 0 (tarsta-byte (s .controller .judgement))
 unfolding row-answer stepped read concluded
 tarsta-shows s = refl
@@ -363,6 +380,7 @@ row-shows c s h =
       looked = λ e. rw e (look-shows s h);
       tcc = λ e. rw e (tcc-shows s h);
       bufc = λ e. rw e (bufc-shows s h);
+      stored = λ x e z. rw e (stored-shows x s (rw e at z));
       tarsta = λ e. rw e (tarsta-shows s);
     }
 
@@ -392,6 +410,7 @@ shows-over c a r b held e s =
       looked = λ i. subst (λ (d : Call). masked d a ≡ masked d r) i e ∙ s .looked i;
       tcc = λ i. subst (λ (d : Call). masked d a ≡ masked d r) i e ∙ s .tcc i;
       bufc = λ i. subst (λ (d : Call). masked d a ≡ masked d r) i e ∙ s .bufc i;
+      stored = λ x i z. subst (λ (d : Call). masked d a ≡ masked d r) i e ∙ s .stored x i (sym (same-number c a r e) ∙ z);
       tarsta = λ i. subst (λ (d : Call). masked d a ≡ masked d r) i e ∙ s .tarsta i;
     }
 

@@ -9,7 +9,7 @@ use lib.Dec.{eqb}
 use lib.ListN.{length, replicate, length-replicate}
 use borrow.Author.Tests.{eq-eqb}
 use Rattle.laws.specs.Choice.{if_then_else_}
-use Rattle.sector.specs.Claims.{elsewhere}
+use Rattle.sector.specs.Claims.{address-alone}
 use Rattle.sector.specs.Receive.{Received, received}
 use Rattle.sector.specs.Sector.{sealed}
 use Rattle.sector.specs.declared.Judgement.{Judgement}
@@ -39,7 +39,7 @@ module _ (u : List ℕ) (size : length u ≡ 2352) (x : List ℕ) (fits : length
       simp (whole, long)
 
   -- a sector of frame 5, where frame 0 is expected
-  shows : keeping-refused .facts (refused-step (disc u 5) fresh) ≡ record { judgement = elsewhere }
+  shows : keeping-refused .facts (refused-step (disc u 5) fresh) ≡ record { judgement = address-alone }
   unfolding refused-step chip.opened
   shows =
       ap (λ (r : Answer). facts-of ((if eqb (number r) 0 then chip-step (disc u 5) fresh else over (record { controller = fresh .chip .controller ▹ judgement≔ (received (fresh .chip .controller .expected) (sealed (frame 5) u) .judgement); place = fresh .chip .place }) x) .chip .controller)) refused

@@ -6,7 +6,7 @@ use mathlib.Core.List.{List, [], _∷_, _++_}
 use native.Mathlib.Omega.{arith}
 use lib.ListN.{length, replicate, length-replicate}
 use Rattle.sector.specs.Address.{next}
-use Rattle.sector.specs.Claims.{elsewhere}
+use Rattle.sector.specs.Claims.{address-alone}
 use Rattle.sector.specs.Sector.{body, framed}
 use Rattle.sector.proofs.Frames.{length-framed}
 use Rattle.controller.specs.Calls.{stepped}
@@ -65,8 +65,8 @@ module _ (x u : List ℕ) (fits : length x ≡ 3 * 2560) (size : length u ≡ 23
   run =
       (calls set-up (bad-restart .opened 3 x)
       then on-disc restart-step (λ _ _. refl) (λ _. refl) (decoding 0) (at 3 0 0 0) x refl fits u size 5 _ refl (not-expected u size)
-      then calls restart (over (chip-with (decoding 0 ▹ bufc≔ 1 ▹ judgement≔ elsewhere ▹ held≔ true) (at 3 0 1 0)) ring1)
-      then on-disc restart-step (λ _ _. refl) (λ _. refl) (decoding 0 ▹ judgement≔ elsewhere) (at 3 0 1 0) ring1 refl (one .whole) u size 0 _ refl (own u size 0)
+      then calls restart (over (chip-with (decoding 0 ▹ bufc≔ 1 ▹ judgement≔ address-alone ▹ held≔ true) (at 3 0 1 0)) ring1)
+      then on-disc restart-step (λ _ _. refl) (λ _. refl) (decoding 0 ▹ judgement≔ address-alone) (at 3 0 1 0) ring1 refl (one .whole) u size 0 _ refl (own u size 0)
       then calls (transfer 14 1) (over (chip-with (decoding 1) (at 3 0 2 1)) ring2)
       then on-word restart-step (λ _ _. refl) (λ _. refl) moving (at 3 0 2 1) ring2 refl (two .whole) 261 refl
       (represents-word two 14 (omega arith) (omega arith))) .told

@@ -19,7 +19,7 @@ book-after M (c ∷ cs) s b = book-after M cs (M .step c s) (feed c (number (M .
 pub record Counted (s : State) (b : Book) : Type 0 where
   -- the chip's ring holds the book's row
   pub refines : Refines s (record { controller = s .chip .controller; blocks = s .chip .place .n; row = b .row })
-  -- the address, the window, ACMEN and the position that the chip keeps are the book's, which knows the calls and their reply numbers alone
+  -- the address, the window, ACMEN, the position and the facts that the chip keeps are the book's, which knows the calls and their reply numbers alone
   pub shows : book-of (s .chip .controller) (b .row) ≡ b
   -- TCC is the number of sectors in the row, and BUFC one more while a bad sector is held
   pub tcc : s .chip .controller .counts .tcc ≡ length (b .row)

@@ -1,5 +1,5 @@
 -- Three claims in plain words beside demand 3 (paper 01, "Demand 3 in full"), stated of any machine with the chip's calls. Memory-free: no answer
--- depends on what lay in the memory; for one size it says more than demand 3, which masks two registers and ends at a stop. Accounted and
+-- depends on what lay in the memory; of the answers of one size it says more than demand 3, which masks two registers and ends at a stop. Accounted and
 -- Never-again follow from demand 3's book alone: each word is of an accepted good sector, and no sector that left comes back. Assumes nothing.
 use Prim.Native.Nat.{ℕ, _+_, _*_, _<_, _≤_}
 use mathlib.Core.Path.{_≡_}

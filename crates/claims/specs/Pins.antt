@@ -1,7 +1,8 @@
 -- A table beside the bench cases, with the numbers written out: what no other claim would notice if code and definition had it wrong alike (paper
--- 01, "Reply numbers", "The ring", "Host and transfers"). Starts with ATLIM 0 and their byte counts, a sector with a wrong code, the facts that are kept, looks at an offset,
--- lent rings of a wrong size, a refused opening, and for each test of soundness a record just outside it and one just inside. A row with conditions
--- holds of every chip that meets them; PinsMet says that there are such, and that calls lead to them. Assumes nothing.
+-- 01, "Reply numbers", "The ring", "Host and transfers"; paper 02, ask 1). Starts with ATLIM 0 and their byte counts, a sector with a wrong code, the
+-- facts that are kept, looks at an offset, lent rings of a wrong size, a refused opening, and for each test of soundness a record just outside it and
+-- one just inside. A row with conditions holds of every chip that meets them; PinsMet says that there are such, and that calls lead to them. Assumes
+-- nothing.
 use Prim.Native.Nat.{ℕ, _+_, _*_, _<_, _≤_}
 use mathlib.Core.Path.{_≡_}
 use mathlib.Core.Bool.{true, false}
@@ -13,7 +14,7 @@ use Rattle.calls.specs.declared.Call.the-variants.{Write, Reset, Status}
 use Rattle.laws.specs.Bytes.{Bytes}
 use Rattle.scramble.specs.Scramble.{scrambled}
 use Rattle.sector.specs.Sector.{framed}
-use Rattle.controller.specs.Fields.{_▹_, tcc≔, bufc≔, ttc≔, expected≔, buflim≔, acctl≔, mbc≔, window≔, transfer≔, received≔}
+use Rattle.controller.specs.Fields.{_▹_, tcc≔, bufc≔, ttc≔, expected≔, buflim≔, acctl≔, judgement≔, mbc≔, window≔, transfer≔, received≔}
 use Rattle.controller.specs.State.{initial}
 use Rattle.controller.specs.declared.state.Controller.{Controller}
 use Rattle.ring.specs.Place.{at}
@@ -75,7 +76,7 @@ pub record GivenCode (u : List ℕ) (k v : ℕ) : Type 0 where
   pub byte : v < 256
   pub other : v ≡ getD (framed (address 0 2 1) u) k 0 → ⊥
 
--- as the machine that tells why answers
+-- an answer of telling-why
 abbrev pub kept : ℕ → Answer
 kept n = replied 0 n
 
@@ -205,6 +206,8 @@ pub record Pins : Type 0 where
   pub atlim-32 : Outside (with-atlim 32)
   pub packet-5 : Inside (five (initial ▹ received≔ 5))
   pub packet-6 : Outside (five (initial ▹ received≔ 6))
+  -- facts have no range
+  pub facts-15 : Inside (five (initial ▹ judgement≔ (record { sync = true; mode = true; edc = true; address = true })))
 
 -- The conditions are met
 

@@ -1,6 +1,7 @@
 -- What the calls' answers show of the book (paper 01, "What the contracts must pin": TCC and BUFC follow from the history of calls), stated of any
 -- machine with the chip's calls: a look shows the window of the oldest sector that waits, 9Dh the number of sectors that wait, 9Bh one more
--- while a bad one is held, 80h the two bits of the last sector that was stored. The history is the calls, their reply numbers and, for held, their results. Assumes nothing.
+-- while a bad one is held; a sector that is stored is answered by its two bits, and 80h shows those of the last one. The history is the calls, their
+-- reply numbers and, for held, their results. Assumes nothing.
 use Prim.Native.Nat.{ℕ, _+_, _*_, _≤_}
 use mathlib.Core.Path.{_≡_}
 use mathlib.Core.Bool.{Bool, true, false, _&&_, _||_}
@@ -12,6 +13,7 @@ use Rattle.laws.specs.Numbers.{weight}
 use Rattle.calls.specs.Choice.{if-write, if-reset}
 use Rattle.calls.specs.declared.Call.the-variants.{Read}
 use Rattle.sector.specs.Judge.{tarsta-byte}
+use Rattle.sector.specs.Receive.{received}
 use Rattle.outcomes.specs.Book.{Book, feed, first-book}
 use Rattle.outcomes.specs.Machine.{Call, plain, sector, look, word, Answer, replied, handed, refused, seen, number, Machine}
 
@@ -43,6 +45,7 @@ pub record Shows (c : Call) (a : Answer) (b : Book) (held : Bool) : Type 0 where
   pub looked : c ≡ look → a ≡ seen (window-of b)
   pub tcc : c ≡ plain (Read 0x9D) → a ≡ replied 0 (length (b .row))
   pub bufc : c ≡ plain (Read 0x9B) → a ≡ replied 0 (length (b .row) + weight held 1)
+  pub stored : (s : List ℕ) → c ≡ sector s → number a ≡ 0 → a ≡ replied 0 (tarsta-byte (received (b .expected) s .judgement))
   pub tarsta : c ≡ plain (Read 0x80) → a ≡ replied 0 (tarsta-byte (b .facts .judgement))
 
 -- over a whole list

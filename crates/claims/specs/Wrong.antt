@@ -66,8 +66,8 @@ constant-answer k word s = if eqb (number (chip-answer word s)) 0 then handed k 
 abbrev pub constant-word : ℕ → Machine
 constant-word k = record { State = State; opened = the-chip .opened; answer = constant-answer k; step = chip-step; facts = the-chip .facts }
 
--- a sector that is refused is judged all the same, and its facts are kept. Two rings of it show the same facts, one wrong as the other: it is the book
--- that shuts it out.
+-- a sector that is refused is judged all the same, and its facts are kept. Two rings of it would show the same facts, one wrong as the other: it is the
+-- book that shuts it out.
 unfoldable pub refused-step : Call → State → State
 refused-step (plain c) s = chip-step (plain c) s
 refused-step (sector x) s =

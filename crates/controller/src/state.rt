@@ -127,12 +127,7 @@ impl Controller {
                 check: false,
             },
             adsc: false,
-            judgement: Judgement {
-                sync: false,
-                mode: false,
-                edc: false,
-                address: false,
-            },
+            judgement: Judgement::none(),
             task: first_task(),
             mbc: 0,
             window: Window {

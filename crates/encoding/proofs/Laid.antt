@@ -7,7 +7,7 @@ use native.Mathlib.Omega.{arith}
 use lib.Dec.{eqb}
 use lib.ListN.{length, getD, drop}
 use lib.Seq.{drop-length}
-use Rattle.laws.specs.Bytes.{Bytes}
+use Rattle.laws.specs.Bytes.{Bytes, pair}
 use Rattle.laws.specs.Numbers.{weight, switches}
 use Rattle.laws.proofs.Ends.{drop-next}
 use Rattle.laws.proofs.Switches.{weight-times, switch-at, weight-tests}
@@ -17,7 +17,7 @@ use Rattle.sector.proofs.Answers.{same-facts}
 use Rattle.controller.specs.Bits.{bit}
 use Rattle.controller.specs.declared.state.Controller.{Controller}
 use Rattle.chip.specs.declared.Chip.{Chip}
-use Rattle.encoding.specs.Words.{word, switch, pair, low, high, facts-in, packet-bytes, controller-in, place-in, decoded, first-switches, second-switches, packet-pairs, encoded, Ranged, EncodingClaim}
+use Rattle.encoding.specs.Words.{word, switch, low, high, judgement-in, packet-bytes, controller-in, place-in, decoded, first-switches, second-switches, packet-pairs, encoded, Ranged, EncodingClaim}
 
 -- eight switches by their weights
 pub flags-of : (a b c d e f g h : Bool) {s t u v w x y z : ℕ} → s ≡ weight a 1 → t ≡ weight b 2 → u ≡ weight c 4 → v ≡ weight d 8 → w ≡ weight e 16
@@ -75,10 +75,10 @@ switch-is bs i = ap (λ (x : ℕ). eqb x 1) (switch-at bs i) ∙ weight-tests (g
 why-switches : (j : Judgement) → why j ≡ switches (j .address ∷ j .edc ∷ j .mode ∷ j .sync ∷ [])
 why-switches j = omega (arith, weight-times (j .sync) 8, weight-times (j .mode) 4, weight-times (j .edc) 2)
 
-facts-back : (j : Judgement) → facts-in (why j) ≡ j
+facts-back : (j : Judgement) → judgement-in (why j) ≡ j
 facts-back j =
     let at = switch-is (j .address ∷ j .edc ∷ j .mode ∷ j .sync ∷ []) in
-    ap facts-in (why-switches j) ∙ same-facts (facts-in (switches (j .address ∷ j .edc ∷ j .mode ∷ j .sync ∷ []))) j (at 3) (at 2) (at 1) (at 0)
+    ap judgement-in (why-switches j) ∙ same-facts (judgement-in (switches (j .address ∷ j .edc ∷ j .mode ∷ j .sync ∷ []))) j (at 3) (at 2) (at 1) (at 0)
 
 -- a list's elements, written out from place i on
 abbrev spelled : List ℕ → ℕ → ℕ → List ℕ

@@ -7,8 +7,8 @@ use lib.Dec.{eqb}
 use lib.ListN.{length, getD, set}
 use lib.Seq.{getD-set-same, getD-set-other}
 use borrow.Author.Tests.{eqb-false}
-use Rattle.controller.specs.Fields.{_▹_, position≔}
-use Rattle.encoding.specs.Words.{word, controller-in, place-in, decoded, at-position}
+use Rattle.encoding.specs.Words.{word, controller-in, place-in, decoded}
+use Rattle.chip.specs.Chip.{at-position}
 
 module _ (ws : List ℕ) (v : ℕ) (long : 14 < length ws) where
   other : (k : ℕ) → eqb k 14 ≡ false → getD (set ws 14 v) k 0 ≡ getD ws k 0

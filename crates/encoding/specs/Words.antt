@@ -1,16 +1,16 @@
 -- A chip's record as 28 words of sixteen bits: words 0 to 15 are numbers, 16 to 19 bytes, the kept facts as the number why among them, 20 and 21
--- switches, 22 to 27 the packet's bytes. Any 28 words are some record; what soundness asks of it is the chip's to test (paper 01, "Reply numbers"). Assumes nothing.
+-- switches, 22 to 27 the packet's bytes. Any 28 words are some record; what soundness asks of it is the chip's to test (paper 01, "Reply
+-- numbers"). Assumes nothing.
 use Prim.Native.Nat.{ℕ, _+_, _*_, _/_, _%_, _<_}
 use mathlib.Core.Path.{_≡_}
 use mathlib.Core.Bool.{Bool}
 use mathlib.Core.List.{List, [], _∷_}
 use lib.ListN.{length, getD}
-use Rattle.laws.specs.Bytes.{Bytes}
+use Rattle.laws.specs.Bytes.{Bytes, pair}
 use Rattle.laws.specs.Numbers.{switches}
 use Rattle.sector.specs.Judge.{why}
 use Rattle.sector.specs.declared.Judgement.{Judgement}
 use Rattle.controller.specs.Bits.{bit}
-use Rattle.controller.specs.Fields.{_▹_, position≔}
 use Rattle.controller.specs.declared.state.Controller.{Controller}
 use Rattle.ring.specs.declared.Place.{Place}
 use Rattle.chip.specs.declared.Chip.{Chip}
@@ -22,19 +22,15 @@ word ws i = getD ws i 0
 abbrev pub switch : List ℕ → ℕ → ℕ → Bool
 switch ws i k = bit (word ws i) k
 
--- two bytes in a word, the first low
-abbrev pub pair : ℕ → ℕ → ℕ
-pair first second = first + 256 * second
-
 abbrev pub low : ℕ → ℕ
 low w = w % 256
 
 abbrev pub high : ℕ → ℕ
 high w = w / 256
 
--- the facts whose number is w
-abbrev pub facts-in : ℕ → Judgement
-facts-in w = record { sync = bit w 3; mode = bit w 2; edc = bit w 1; address = bit w 0 }
+-- the facts in the low four bits of a number
+abbrev pub judgement-in : ℕ → Judgement
+judgement-in w = record { sync = bit w 3; mode = bit w 2; edc = bit w 1; address = bit w 0 }
 
 abbrev pub packet-bytes : List ℕ → List ℕ
 packet-bytes ws =
@@ -68,7 +64,7 @@ controller-in ws =
           };
       ascsta = record { drdy = switch ws 21 8; corr = switch ws 21 9; check = switch ws 21 10 };
       adsc = switch ws 20 7;
-      judgement = facts-in (high (word ws 19));
+      judgement = judgement-in (high (word ws 19));
       task =
           record {
             aterr = low (word ws 17);
@@ -98,10 +94,6 @@ place-in ws = record { n = word ws 0; t = word ws 1; b = word ws 2; last = word 
 unfoldable pub decoded : List ℕ → Chip
 decoded ws = record { controller = controller-in ws; place = place-in ws }
 
--- the record with another position in its transfer
-abbrev pub at-position : Chip → ℕ → Chip
-at-position c p = record { controller = c .controller ▹ position≔ p; place = c .place }
-
 -- the switches of words 20 and 21, the first in bit 0
 abbrev pub first-switches : Controller → List Bool
 first-switches k =
@@ -130,7 +122,8 @@ encoded c =
     ∷ k .expected .minute ∷ k .expected .second ∷ k .expected .frame
     ∷ k .buffering .buflim ∷ k .window .offset ∷ k .window .words
     ∷ k .transfer .left ∷ k .transfer .position ∷ k .packet .received
-    ∷ pair (k .acctl .atlim) (k .mbc) ∷ pair (k .task .aterr) (k .task .atint) ∷ pair (k .task .atblo) (k .task .atbhi) ∷ pair (k .task .atcmd) (why (k .judgement))
+    ∷ pair (k .acctl .atlim) (k .mbc) ∷ pair (k .task .aterr) (k .task .atint) ∷ pair (k .task .atblo) (k .task .atbhi)
+    ∷ pair (k .task .atcmd) (why (k .judgement))
     ∷ switches (first-switches k) ∷ switches (second-switches k)
     ∷ packet-pairs (k .packet .bytes)
 

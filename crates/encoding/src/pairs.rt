@@ -5,7 +5,8 @@ ghost use mathlib.Core.Path.{_≡_};
 ghost use mathlib.Core.List.{[], _∷_};
 ghost use Prim.Native.Nat.{_<_};
 ghost use Rattle.laws.specs.Numbers.{switches};
-ghost use Rattle.encoding.specs.Words.{pair, low, high};
+ghost use Rattle.laws.specs.Bytes.{pair};
+ghost use Rattle.encoding.specs.Words.{low, high};
 
 pub(crate) fn pair(first: u8, second: u8) -> u16
     ensures { λ r. ⌜ (r ≡ pair first second) × (first < 256) × (second < 256) ⌝ }

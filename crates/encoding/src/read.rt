@@ -101,12 +101,12 @@ fn ascsta(words: &[u16; 28]) -> Ascsta
 fn judgement(words: &[u16; 28]) -> Judgement
     ensures { λ r. ⌜ r ≡ controller-in (now (words .entry)) .judgement ⌝ }
 {
-    let facts = high(words[19]);
+    let why = high(words[19]);
     Judgement {
-        sync: (facts >> 3) % 2 == 1,
-        mode: (facts >> 2) % 2 == 1,
-        edc: (facts >> 1) % 2 == 1,
-        address: (facts >> 0) % 2 == 1,
+        sync: (why >> 3) % 2 == 1,
+        mode: (why >> 2) % 2 == 1,
+        edc: (why >> 1) % 2 == 1,
+        address: (why >> 0) % 2 == 1,
     }
 }
 

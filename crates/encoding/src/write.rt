@@ -3,14 +3,14 @@ use crate::pairs::flags;
 use crate::pairs::pair;
 use chip::Chip;
 use controller::Controller;
-use sector::Judgement;
 ghost use mathlib.Core.Path.{_≡_};
 ghost use Prim.Native.Nat.{_+_, _<_};
 ghost use lib.ListN.{length, set};
 ghost use Rattle.laws.specs.Bytes.{Bytes};
 ghost use Rattle.laws.specs.Numbers.{switches};
 ghost use Rattle.sector.specs.Judge.{why};
-ghost use Rattle.encoding.specs.Words.{word, decoded, at-position, encoded, first-switches, second-switches, packet-pairs, Ranged};
+ghost use Rattle.chip.specs.Chip.{at-position};
+ghost use Rattle.encoding.specs.Words.{word, decoded, encoded, first-switches, second-switches, packet-pairs, Ranged};
 
 // Word 20.
 fn first_switches(c: Controller) -> u16
@@ -69,9 +69,10 @@ fn second_switches(c: Controller) -> u16
 }
 
 // The high byte of word 19.
-fn facts(judgement: Judgement) -> u8
-    ensures { λ r. ⌜ r ≡ why judgement ⌝ }
+fn why_byte(c: Controller) -> u8
+    ensures { λ r. ⌜ r ≡ why (c .judgement) ⌝ }
 {
+    let judgement = c.judgement;
     judgement.why() as u8
 }
 
@@ -98,8 +99,6 @@ fn laid(chip: Chip) -> [u16; 28]
     let received = c.packet;
     let bytes = received.bytes;
     let packet = packet_words(bytes);
-    let judgement = c.judgement;
-    let facts = facts(judgement);
     [
         place.n,
         place.t,
@@ -120,7 +119,7 @@ fn laid(chip: Chip) -> [u16; 28]
         pair(c.acctl.atlim, c.mbc),
         pair(c.task.aterr, c.task.atint),
         pair(c.task.atblo, c.task.atbhi),
-        pair(c.task.atcmd, facts),
+        pair(c.task.atcmd, why_byte(c)),
         first_switches(c),
         second_switches(c),
         packet[0],

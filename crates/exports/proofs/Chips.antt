@@ -10,7 +10,8 @@ use Rattle.chip.specs.declared.Told.{Told}
 use Rattle.chip.specs.declared.Word.{Word}
 use Rattle.chip.specs.declared.Word.the-variants.{Handed, Refused}
 use Rattle.chip.specs.declared.WordTold.{WordTold}
-use Rattle.encoding.specs.Words.{decoded, at-position}
+use Rattle.chip.specs.Chip.{at-position}
+use Rattle.encoding.specs.Words.{decoded}
 use Rattle.burst.specs.Burst.{Run, ahead, told-of}
 use Rattle.burst.specs.declared.Burst.{Burst}
 use Rattle.burst.proofs.Blocks.{inside-of, inside-small, word-inside}

@@ -1,7 +1,8 @@
 -- What each exported call returns: a reply as one number, the reply number in the low byte and the result above it (paper 01, "Reply
 -- numbers"). What a call leaves in the sector is sector's to say, and what lines leave script's. Assumes nothing.
 use mathlib.Core.List.{List}
-use Prim.Native.Nat.{ℕ, _+_, _*_}
+use Prim.Native.Nat.{ℕ}
+use Rattle.laws.specs.Bytes.{pair}
 use Rattle.sector.specs.declared.Address.{Address}
 use Rattle.reply.specs.declared.Reply.{Reply}
 use Rattle.sector.specs.declared.Judged.{Judged}
@@ -15,7 +16,7 @@ abbrev pub at : ℕ → ℕ → ℕ → Address
 at minute second frame = record { minute = minute; second = second; frame = frame }
 
 abbrev pub packed : ℕ → ℕ → ℕ
-packed number result = number + 256 * result
+packed number result = pair number result
 
 abbrev pub reply-word : Reply → ℕ
 reply-word r = packed (r .number) (r .result)

@@ -1,19 +1,21 @@
 -- What the bench answers, by cases of the word handed over and of a sector line. Assumes nothing.
-use mathlib.Core.Path.{_≡_, sym, ap, ap₂, _∙_}
-use mathlib.Core.Bool.{Bool, true, false, not}
+use mathlib.Core.Path.{_≡_, refl, sym, ap, ap₂, _∙_}
+use mathlib.Core.Bool.{Bool, true, false, not, _&&_}
 use mathlib.Core.List.{List, _++_, append-assoc}
 use Prim.Native.Nat.{ℕ, _+_, _-_, _≤_, _<_}
+use native.Mathlib.Nat.{add-zero}
 use native.Mathlib.Omega.{arith}
-use lib.Dec.{ltb, eqb}
-use lib.ListN.{length, take, drop, replicate, length-replicate, length-append, length-take, length-drop}
+use lib.Dec.{leb, ltb, eqb}
+use lib.ListN.{length, take, drop, getD, take-append-drop, replicate, length-replicate, length-append, length-take, length-drop}
 use lib.Seq.{take-at, take-append-add, length-take-le}
 use borrow.Rule.Slice.PartMut.{putMid, midOf}
-use borrow.Author.Tests.{eq-eqb, ne-eqb, eqb-true, lt-ltb, le-ltb, ltb-false, leb-true, not-true, not-false}
+use borrow.Author.Tests.{eq-eqb, ne-eqb, eqb-true, lt-ltb, le-ltb, ltb-true, ltb-false, leb-true, le-leb, not-true, not-false}
 use Rattle.laws.specs.Bytes.{inverted}
-use Rattle.laws.proofs.Bytes.{length-inverted}
+use Rattle.laws.specs.Choice.{if_then_else_}
+use Rattle.laws.proofs.Bytes.{length-inverted, getD-inverted}
 use Rattle.laws.proofs.Parts.{put-rest, mid-rest, put-part}
-use Rattle.laws.proofs.Window.{length-window, length-put}
-use Rattle.laws.proofs.Choice.{if-case, if-true, if-false, not-of-true, not-of-false}
+use Rattle.laws.proofs.Window.{length-window, getD-window, length-put, getD-put}
+use Rattle.laws.proofs.Choice.{if-case, if-true, if-false, then-same, left-true, right-true, not-of-true, not-of-false}
 use Rattle.sector.specs.Address.{valid}
 use Rattle.sector.specs.Calls.{seal-sector}
 use Rattle.sector.specs.declared.Address.{Address}
@@ -107,6 +109,24 @@ module _ (d : Damage) (s : List ℕ) where
       ∙ full)
       (λ _. full)
 
+  -- byte by byte
+  pub scratched-byte : (k : ℕ) → length s ≡ 2352 → d .from + d .count ≤ 2352 → k < 2352
+      → getD (scratched d s) k 0 ≡ (if leb (d .from) k && ltb k (d .from + d .count) then 255 - getD s k 0 else getD s k 0)
+  unfolding scratched
+  scratched-byte k full fits inside-it =
+      ap (λ (x : List ℕ). getD x k 0) (if-true (inside (d .from) (d .count)) _ s (le-leb (d .from + d .count) 2352 fits))
+      ∙ getD-put (d .from) (d .count) s (inverted (take (d .count) (drop (d .from) s))) (omega (arith, full))
+      (length-inverted (take (d .count) (drop (d .from) s)) ∙ length-window (d .from) (d .count) s (omega (arith, full))) k 0
+      ∙ then-same (leb (d .from) k && ltb k (d .from + d .count)) _ _ (getD s k 0)
+      (λ e.
+      let from = leb-true (d .from) k (left-true (leb (d .from) k) (ltb k (d .from + d .count)) e) in
+      let to = ltb-true k (d .from + d .count) (right-true (leb (d .from) k) (ltb k (d .from + d .count)) e) in
+      let here : k - d .from < d .count = omega arith in
+      let place : d .from + (k - d .from) ≡ k = omega arith in
+      let part = length-window (d .from) (d .count) s (omega (arith, full)) in
+      getD-inverted (take (d .count) (drop (d .from) s)) (k - d .from) (omega (arith, part))
+      ∙ ap (λ (x : ℕ). 255 - x) (getD-window (d .from) (d .count) (k - d .from) 0 s here ∙ ap (λ (i : ℕ). getD s i 0) place))
+
   pub as-it-was : (b : Bool) → b ≡ inside (d .from) (d .count) → not b ≡ true → s ≡ scratched d s
   unfolding scratched
   as-it-was b e out = sym (if-false (inside (d .from) (d .count)) _ s (sym e ∙ not-true b out))
@@ -119,6 +139,14 @@ module _ (d : Damage) (s : List ℕ) where
       put-part (d .from) (d .count) s t
       ∙ ap (λ (x : List ℕ). take (d .from) s ++ (x ++ drop (d .from + d .count) s)) (et ∙ ap (λ (n : ℕ). inverted (take n (drop (d .from) s))) size)
       ∙ sym (if-true (inside (d .from) (d .count)) _ s (sym e ∙ not-false b in-it))
+
+-- a count of 0 damages nothing
+pub scratched-none : (from : ℕ) (s : List ℕ) → scratched (record { from = from; count = 0 }) s ≡ s
+unfolding scratched
+scratched-none from s =
+    if-case (λ (x : List ℕ). x ≡ s) (inside from 0) _ s
+    (λ _. ap (λ (n : ℕ). take from s ++ drop n s) (add-zero from) ∙ take-append-drop from s)
+    (λ _. refl)
 
 -- the three parts of a bench sector, put one behind the other
 pub laid : (s a b z : List ℕ) (byte : ℕ) → a ≡ replicate 16 0 → b ≡ replicate 2048 byte → z ≡ replicate 288 0 →

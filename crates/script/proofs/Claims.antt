@@ -3,11 +3,12 @@
 use Prim.Native.Nat.{ℕ, _≤_}
 use mathlib.Core.Path.{_≡_, refl, sym, ap, _∙_}
 use mathlib.Core.Bool.{Bool, true, false, not, _&&_, true≢false}
-use mathlib.Core.List.{List, [], _++_}
+use mathlib.Core.List.{List, [], _∷_, _++_}
 use lib.Dec.{ltb, eqb}
 use lib.ListN.{length, take, drop, length-append, take-append-drop}
 use borrow.Author.Tests.{eq-eqb, ne-eqb, eqb-true}
 use Rattle.laws.specs.Choice.{if_then_else_}
+use Rattle.laws.proofs.Bytes.{complement-bits}
 use Rattle.laws.proofs.Choice.{if-case, if-true, if-false, not-of-true}
 use Rattle.sector.specs.Address.{valid}
 use Rattle.sector.specs.Calls.{seal-sector}
@@ -37,8 +38,8 @@ use Rattle.script.specs.Answers.{Answered, unchanged, answered, refused,
 use Rattle.script.specs.Damage.{inside, scratched, damage-by, damage-after}
 use Rattle.script.specs.Bench as bench
 use Rattle.script.specs.Bench.{started, reply}
-use Rattle.script.proofs.Answering.{number-chip, admitted, length-scratched}
-use Rattle.script.specs.Claims.{Closed, ClosedClaim, RefusalClaim, out-of, Runs, MachineClaim}
+use Rattle.script.proofs.Answering.{number-chip, admitted, length-scratched, scratched-none, scratched-byte}
+use Rattle.script.specs.Claims.{Closed, ClosedClaim, RefusalClaim, out-of, Runs, MachineClaim, DiscClaim}
 use Rattle.script.specs.declared.Bench.{Bench}
 use Rattle.script.specs.declared.call.Answer.{Answer}
 use Rattle.script.specs.declared.disc.Damage.{Damage}
@@ -210,9 +211,15 @@ pub refused-empty : (m s : List ℕ) → reply started m s [] .answer .number �
 unfolding answered closed parse named several disc-line bare form onward
 refused-empty m s = refl
 
-scratch-keeps : (c : Chip) (from count : ℕ) → scratching c from count .chip ≡ c
+scratch-told : (c : Chip) (from count : ℕ)
+    → scratching c from count ≡ record { opened = true; chip = c; number = if inside from count then 0 else 3; out = 0 }
 unfolding scratching
-scratch-keeps c from count = if-case (λ (x : Answer). x .chip ≡ c) (inside from count) _ _ (λ _. refl) (λ _. refl)
+scratch-told c from count = by (inside from count)
+  where
+    by : (b : Bool) → (if b then record { opened = true; chip = c; number = 0; out = 0 } else refused true c 3)
+        ≡ record { opened = true; chip = c; number = if b then 0 else 3; out = 0 }
+    by true = refl
+    by false = refl
 
 pub machine-claim : MachineClaim
 unfolding called word chip-answer chip-step
@@ -222,5 +229,19 @@ machine-claim = record {
   word-runs = λ c d ring s.
       record { number-is = word-number (calls.word-told c ring .word); out-is = word-out (calls.word-told c ring .word); chip-is = refl; ring-is = refl };
   sector-runs = line-runs;
-  scratch-runs = λ c d ring s from count. (scratch-keeps c from count, refl);
+  scratch-runs = λ c d ring s from count. ap (unchanged ring s) (scratch-told c from count);
+}
+
+pub disc-claim : DiscClaim
+unfolding damage-after
+disc-claim = record {
+  bits = λ x h. ap (λ (y : ℕ). y ∷ []) (complement-bits x h);
+  as-long = length-scratched;
+  none = scratched-none;
+  byte = scratched-byte;
+  said = λ d from count. refl;
+  used-up = λ d a byte. refl;
+  cleared = λ d n. refl;
+  waited = λ d call number. if-case (λ (x : Damage). x ≡ d) (eqb number 0) d d (λ _. refl) (λ _. refl);
+  refusal = λ d line number nonzero. damage-stays d line number (ne-eqb _ _ nonzero);
 }

@@ -10,7 +10,7 @@ use Rattle.syntax.specs.Print.{printed, room, over}
 use Rattle.syntax.specs.declared.line.Line.{Line}
 use Rattle.syntax.specs.declared.print.Shown.{Shown}
 use Rattle.script.specs.Answers.{Answered, answered, shown}
-use Rattle.script.specs.Bench.{Left, ran, reply, damaged, count, told, after}
+use Rattle.script.specs.Bench.{Left, ran, reply, damage-left, count, told, after}
 use Rattle.script.specs.Damage.{damage-after}
 use Rattle.script.specs.declared.call.Answer.{Answer}
 use Rattle.script.specs.declared.disc.Damage.{Damage}
@@ -18,7 +18,7 @@ use Rattle.script.specs.declared.Bench.{Bench}
 use Rattle.script.specs.declared.Ran.{Ran}
 
 -- where there is room
-pub ran-is : (b : Bench) (m s line out : List ℕ) → room ≤ length out → ran b m s line out ≡ told (reply b m s line) (damaged b line (reply b m s line .answer .number)) (count b) out
+pub ran-is : (b : Bench) (m s line out : List ℕ) → room ≤ length out → ran b m s line out ≡ told (reply b m s line) (damage-left b line (reply b m s line .answer .number)) (count b) out
 unfolding ran
 ran-is b m s line out h = if-false _ _ _ (le-ltb _ _ h)
 
@@ -31,5 +31,5 @@ module _ (b : Bench) (m s line out : List ℕ) (h : room ≤ length out) (l : Li
       ap₂ (λ (k : ℕ) (o : List ℕ). record { result = record { bench = after a d n; size = k }; memory = m′; sector = s′; out = o })
       (es ∙ ap (λ (u : Shown). length (printed u)) et) (eo ∙ ap (λ (u : Shown). over (printed u) out) et)
       ∙ ap (λ (x : Damage). told (record { answer = a; memory = m′; sector = s′ }) x n out) (ed ∙ ap (λ (x : Line). damage-after (b .damage) x (a .number)) el)
-      ∙ ap₂ (λ (x : Answered) (k : ℕ). told x (damaged b line (x .answer .number)) k out) (ea ∙ ap (answered (b .opened) (b .chip) (b .damage) m s) el) en
+      ∙ ap₂ (λ (x : Answered) (k : ℕ). told x (damage-left b line (x .answer .number)) k out) (ea ∙ ap (answered (b .opened) (b .chip) (b .damage) m s) el) en
       ∙ sym (ran-is b m s line out h)

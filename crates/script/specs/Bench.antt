@@ -15,7 +15,7 @@ use Rattle.script.specs.declared.disc.Damage.{Damage}
 use Rattle.script.specs.declared.Bench.{Bench}
 use Rattle.script.specs.declared.Ran.{Ran}
 
--- before any line: no chip is open, and its record is that of a refused opening
+-- before any line: no chip is open, its record is that of a refused opening, and the next sector arrives undamaged
 abbrev pub started : Bench
 started = record { opened = false; chip = opened 0 .chip; damage = undamaged; lines = 0 }
 
@@ -26,12 +26,13 @@ pub record Left (A : Type 0) : Type 0 where
   pub sector : List ℕ
   pub out : List ℕ
 
--- the answer to a line, and what the next sector arrives with after it
+-- the answer to a line
 abbrev pub reply : Bench → List ℕ → List ℕ → List ℕ → Answered
 reply b m s line = answered (b .opened) (b .chip) (b .damage) m s (parse line)
 
-abbrev pub damaged : Bench → List ℕ → ℕ → Damage
-damaged b line number = damage-after (b .damage) (parse line) number
+-- and what the next sector arrives with after it, by its reply number
+abbrev pub damage-left : Bench → List ℕ → ℕ → Damage
+damage-left b line number = damage-after (b .damage) (parse line) number
 
 -- lines are counted from 1; the count is a number of 64 bits
 abbrev pub count : Bench → ℕ
@@ -59,4 +60,4 @@ told a d n out =
 unfoldable pub ran : Bench → List ℕ → List ℕ → List ℕ → List ℕ → Left Ran
 ran b m s line out =
     if ltb (length out) room then record { result = record { bench = b; size = 0 }; memory = m; sector = s; out = out }
-    else told (reply b m s line) (damaged b line (reply b m s line .answer .number)) (count b) out
+    else told (reply b m s line) (damage-left b line (reply b m s line .answer .number)) (count b) out

@@ -7,7 +7,7 @@ use lib.ListN.{length}
 use Rattle.laws.specs.Choice.{if_then_else_}
 use Rattle.syntax.specs.Print.{room, over}
 use Rattle.script.specs.Answers.{Answered}
-use Rattle.script.specs.Bench.{Left, reply, damaged, count, text, after}
+use Rattle.script.specs.Bench.{Left, reply, damage-left, count, text, after}
 use Rattle.script.specs.declared.Bench.{Bench}
 use Rattle.script.specs.declared.disc.Damage.{Damage}
 use Rattle.script.specs.declared.lines.Fed.{Fed}
@@ -38,7 +38,7 @@ with-answer d a damage size =
 abbrev pub with-line : Progress → List ℕ → Progress
 with-line d line =
     let a = reply (d .bench) (d .memory) (d .sector) line in
-    with-answer d a (damaged (d .bench) line (a .answer .number)) (length line + 1)
+    with-answer d a (damage-left (d .bench) line (a .answer .number)) (length line + 1)
 
 -- every line that has an end, in order, while there is room for its answer in so many bytes; `line` is what has come of the present one
 unfoldable pub fed : ℕ → Progress → List ℕ → List ℕ → Progress

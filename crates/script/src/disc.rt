@@ -17,7 +17,7 @@ pub(crate) fn inside(from: u16, count: u16) -> bool
     (from as u32) + (count as u32) <= 2352
 }
 
-fn none() -> Damage
+pub(crate) fn none() -> Damage
     ensures { λ r. ⌜ r ≡ undamaged ⌝ }
 {
     Damage { from: 0, count: 0 }

@@ -40,7 +40,7 @@ impl Bench {
         Bench {
             opened: false,
             chip: chip,
-            damage: Damage { from: 0, count: 0 },
+            damage: disc::none(),
             lines: 0,
         }
     }

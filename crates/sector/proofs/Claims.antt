@@ -11,7 +11,7 @@ use Rattle.sector.specs.Claims.{SealClaim, ChangeClaim, DamageClaim, Fac
 use Rattle.sector.proofs.Addresses.{next-valid}
 use Rattle.sector.proofs.Sealed.{count, bytes, user-back, address-back, own, other, again}
 use Rattle.sector.proofs.Damage.{changed, damage}
-use Rattle.sector.proofs.Facts.{facts, independent}
+use Rattle.sector.proofs.FourFacts.{facts, independent}
 
 pub seal-holds : SealClaim
 seal-holds s a full v = record {

@@ -7,12 +7,13 @@ use mathlib.Core.Logic.{_⊎_, inl, inr, ⊎-elim}
 use Prim.Native.Nat.{ℕ, _<_, _≤_}
 use native.Mathlib.Omega.{arith}
 use lib.Dec.{eqb, leb, ltb}
-use borrow.Author.Tests.{eq-eqb, ne-eqb, eqb-true, eqb-false, leb-true, leb-false, ltb-true, ltb-false, not-false}
+use borrow.Author.Tests.{ne-eqb, eqb-true, eqb-false, leb-true, leb-false, ltb-true, ltb-false, not-false}
 use lib.ListN.{length, take, drop, getD, set, length-set}
 use lib.Seq.{length-take-le, take-set-le, take-set-lt, drop-set-lt, getD-take, getD-set-same, getD-set-other}
 use Rattle.laws.specs.Bytes.{Bytes}
 use Rattle.laws.specs.Same.{same}
 use Rattle.laws.proofs.Bytes.{bytes-take}
+use Rattle.laws.proofs.Choice.{left-true, right-true}
 use Rattle.laws.proofs.Changed.{window-away, window-differs, same-away, same-fails}
 use Rattle.laws.proofs.Same.{same-is, not-same}
 use Rattle.laws.proofs.Wrap.{lt-or-ge}
@@ -24,8 +25,8 @@ use Rattle.sector.specs.declared.Judgement.{Judgement}
 use Rattle.sector.specs.declared.Judged.{Judged}
 use Rattle.sector.specs.Address.{address-bytes}
 use Rattle.sector.specs.Sector.{sync, low4}
-use Rattle.sector.specs.Judge.{sync-holds, mode-holds, edc-holds, address-holds, judgement}
-use Rattle.sector.specs.Claims.{Changed, ChangeClaim, damaged, DamageClaim}
+use Rattle.sector.specs.Judge.{sync-holds, mode-holds, edc-holds, address-holds, judgement, no-facts}
+use Rattle.sector.specs.Claims.{Changed, ChangeClaim, facts-of-change, DamageClaim}
 use Rattle.sector.proofs.Frames.{low4-tells}
 use Rattle.sector.proofs.Answers.{same-facts, accepted, judge-done, judged-facts}
 
@@ -103,47 +104,29 @@ changed s a k v full hs hv new = record {
   address-set = λ from to. fact-set (address-holds a s) (address-holds a (set s k v)) (same-fails 12 3 k v s (address-bytes a) from to (omega arith) new);
 }
 
--- in a good sector a fact is set exactly where k is inside
-module _ (s : List ℕ) (a : Address) (k v : ℕ) (h : Changed s a k v) where
-  abbrev after : Judgement
-  after = judgement a (set s k v)
+-- a fact that was not set is set exactly where k is inside
+exactly : (inside was is : Bool) → (inside ≡ true → was ≡ false → is ≡ true) → (inside ≡ false → is ≡ was) → was ≡ false → is ≡ inside
+exactly true was is set-by stays unset = set-by refl unset
+exactly false was is set-by stays unset = stays refl ∙ unset
 
-  sync-is : judgement a s .sync ≡ false → after .sync ≡ ltb k 12
-  sync-is unset = by (ltb k 12) refl
-    where
-      by : (b : Bool) → ltb k 12 ≡ b → after .sync ≡ b
-      by true e = h .sync-set (ltb-true k 12 e) unset
-      by false e = h .sync-stays (ltb-false k 12 e) ∙ unset
-
-  mode-is : judgement a s .mode ≡ false → after .mode ≡ eqb k 15
-  mode-is unset = by (eqb k 15) refl
-    where
-      by : (b : Bool) → eqb k 15 ≡ b → after .mode ≡ b
-      by true e = h .mode-set (eqb-true k 15 e) unset
-      by false e = h .mode-stays (eqb-false k 15 e) ∙ unset
-
-  edc-is : judgement a s .edc ≡ false → after .edc ≡ ltb k 2068
-  edc-is unset = by (ltb k 2068) refl
-    where
-      by : (b : Bool) → ltb k 2068 ≡ b → after .edc ≡ b
-      by true e = h .edc-set (ltb-true k 2068 e) unset
-      by false e = h .edc-stays (ltb-false k 2068 e) ∙ unset
-
-  address-is : judgement a s .address ≡ false → after .address ≡ (leb 12 k && ltb k 15)
-  address-is unset = by (leb 12 k) (ltb k 15) refl refl
-    where
-      by : (b c : Bool) → leb 12 k ≡ b → ltb k 15 ≡ c → after .address ≡ (b && c)
-      by true true e f = h .address-set (leb-true 12 k e) (ltb-true k 15 f) unset
-      by true false e f = h .address-stays (inr (ltb-false k 15 f)) ∙ unset
-      by false c e f = h .address-stays (inl (leb-false 12 k e)) ∙ unset
+outside : (k : ℕ) → (leb 12 k && ltb k 15) ≡ false → (k < 12) ⊎ (15 ≤ k)
+outside k e = by (leb 12 k) refl e
+  where
+    by : (b : Bool) → leb 12 k ≡ b → (b && ltb k 15) ≡ false → (k < 12) ⊎ (15 ≤ k)
+    by true f g = inr (ltb-false k 15 g)
+    by false f g = inl (leb-false 12 k f)
 
 pub damage : DamageClaim
 damage s a k v hs judged hv new =
     let ok = accepted s a (ap (λ (j : Judged). j .number) judged) in
-    let none = judged-facts s a _ judged in
     let h = changed s a k v (ok .0) hs hv new in
-    let unset : (f : Judgement → Bool) → f (judgement a s) ≡ f (record { sync = false; mode = false; edc = false; address = false }) = λ (f : Judgement → Bool). ap f none in
+    let was : (f : Judgement → Bool) → f (judgement a s) ≡ f no-facts = λ (f : Judgement → Bool). ap f (judged-facts s a no-facts judged) in
     sym (judge-done (set s k v) a (length-set s k v ∙ ok .0) (ok .1))
     ∙ ap (λ (j : Judgement). record { number = 0; judgement = j })
-    (same-facts (judgement a (set s k v)) (damaged k) (sync-is s a k v h (unset (λ j. j .sync))) (mode-is s a k v h (unset (λ j. j .mode))) (edc-is s a k v h (unset (λ j. j .edc)))
-    (address-is s a k v h (unset (λ j. j .address))))
+    (same-facts (judgement a (set s k v)) (facts-of-change k)
+    (exactly (ltb k 12) _ _ (λ e. h .sync-set (ltb-true k 12 e)) (λ e. h .sync-stays (ltb-false k 12 e)) (was (λ j. j .sync)))
+    (exactly (eqb k 15) _ _ (λ e. h .mode-set (eqb-true k 15 e)) (λ e. h .mode-stays (eqb-false k 15 e)) (was (λ j. j .mode)))
+    (exactly (ltb k 2068) _ _ (λ e. h .edc-set (ltb-true k 2068 e)) (λ e. h .edc-stays (ltb-false k 2068 e)) (was (λ j. j .edc)))
+    (exactly (leb 12 k && ltb k 15) _ _
+    (λ e. h .address-set (leb-true 12 k (left-true (leb 12 k) (ltb k 15) e)) (ltb-true k 15 (right-true (leb 12 k) (ltb k 15) e)))
+    (λ e. h .address-stays (outside k e)) (was (λ j. j .address))))

@@ -5,5 +5,5 @@ pub mod Answers
 pub mod Sealed
 pub mod Received
 pub mod Damage
-pub mod Facts
+pub mod FourFacts
 pub mod Claims

@@ -15,7 +15,7 @@ use Rattle.sector.specs.Address.{valid, address-bytes, address-of}
 use Rattle.sector.specs.Sector.{sync, low4, user, body, framed, sealed}
 use Rattle.sector.specs.Judge.{sync-holds, mode-holds, edc-holds, address-holds, judgement, no-facts}
 use Rattle.sector.specs.Calls.{seal-sector, open-sector, judge-answer}
-use Rattle.sector.specs.Claims.{verdict, elsewhere}
+use Rattle.sector.specs.Claims.{verdict, address-alone}
 use Rattle.sector.proofs.Addresses.{from-bytes, bytes-back, bytes-tell}
 use Rattle.sector.proofs.Frames.{length-framed, code-framed, user-framed, framed-twice, sync-framed, header-framed, mode-framed, bytes-framed}
 use Rattle.sector.proofs.Answers.{open-done, seal-done, judge-done}
@@ -48,7 +48,7 @@ module _ (a : Address) (s : List ℕ) (full : length s ≡ 2352) where
   unfolding address-holds
   judged-own = judged a true (same-of (take 3 (drop 12 (framed a s))) (address-bytes a) (header-framed a s))
 
-  pub judged-other : (b : Address) → valid a ≡ true → valid b ≡ true → (b ≡ a → ⊥) → judgement b (framed a s) ≡ elsewhere
+  pub judged-other : (b : Address) → valid a ≡ true → valid b ≡ true → (b ≡ a → ⊥) → judgement b (framed a s) ≡ address-alone
   unfolding address-holds
   judged-other b va vb n =
       judged b false (not-same (take 3 (drop 12 (framed a s))) (address-bytes b) (λ (e : take 3 (drop 12 (framed a s)) ≡ address-bytes b). n (sym (bytes-tell a b va vb (sym (header-framed a s) ∙ e)))))
@@ -85,8 +85,8 @@ module _ (a : Address) (s : List ℕ) (full : length s ≡ 2352) (v : valid a �
   pub own : judge-answer (open-sector (seal-sector s a)) a ≡ verdict no-facts
   own = judges a no-facts v (judged-own a s full)
 
-  pub other : (b : Address) → valid b ≡ true → (b ≡ a → ⊥) → judge-answer (open-sector (seal-sector s a)) b ≡ verdict elsewhere
-  other b vb n = judges b elsewhere vb (judged-other a s full b v vb n)
+  pub other : (b : Address) → valid b ≡ true → (b ≡ a → ⊥) → judge-answer (open-sector (seal-sector s a)) b ≡ verdict address-alone
+  other b vb n = judges b address-alone vb (judged-other a s full b v vb n)
 
   pub again : seal-sector (open-sector (seal-sector s a)) a ≡ seal-sector s a
   unfolding sealed

@@ -21,8 +21,8 @@ abbrev pub verdict : Judgement → Judged
 verdict j = record { number = 0; judgement = j }
 
 -- the address alone
-abbrev pub elsewhere : Judgement
-elsewhere = record { sync = false; mode = false; edc = false; address = true }
+abbrev pub address-alone : Judgement
+address-alone = record { sync = false; mode = false; edc = false; address = true }
 
 -- a buffer s that was sealed at a
 pub record SealedClaim (s : List ℕ) (a : Address) : Type 0 where
@@ -34,7 +34,7 @@ pub record SealedClaim (s : List ℕ) (a : Address) : Type 0 where
   pub address-back : address-of (open-sector (seal-sector s a)) ≡ a
   -- judged at its own address nothing fails, at any other the address alone
   pub own : judge-answer (open-sector (seal-sector s a)) a ≡ verdict no-facts
-  pub other : (b : Address) → valid b ≡ true → (b ≡ a → ⊥) → judge-answer (open-sector (seal-sector s a)) b ≡ verdict elsewhere
+  pub other : (b : Address) → valid b ≡ true → (b ≡ a → ⊥) → judge-answer (open-sector (seal-sector s a)) b ≡ verdict address-alone
   -- opened and sealed again, it is the same
   pub again : seal-sector (open-sector (seal-sector s a)) a ≡ seal-sector s a
 
@@ -60,13 +60,13 @@ ChangeClaim = (s : List ℕ) (a : Address) (k v : ℕ) → length s ≡ 2352 →
 
 -- so of a good sector it sets just these: EDC, which covers all that is judged, and with it sync, address or mode where it stands there; behind
 -- the EDC nothing
-abbrev pub damaged : ℕ → Judgement
-damaged k = record { sync = ltb k 12; mode = eqb k 15; edc = ltb k 2068; address = leb 12 k && ltb k 15 }
+abbrev pub facts-of-change : ℕ → Judgement
+facts-of-change k = record { sync = ltb k 12; mode = eqb k 15; edc = ltb k 2068; address = leb 12 k && ltb k 15 }
 
 abbrev pub DamageClaim : Type 0
 DamageClaim =
     (s : List ℕ) (a : Address) (k v : ℕ) → Bytes s → judge-answer s a ≡ verdict no-facts → v < 256 → (v ≡ getD s k 0 → ⊥)
-    → judge-answer (set s k v) a ≡ verdict (damaged k)
+    → judge-answer (set s k v) a ≡ verdict (facts-of-change k)
 
 -- The four facts
 
@@ -81,7 +81,11 @@ pub record FactsClaim : Type 0 where
   -- a sector is good exactly where why is 0, and where 80h is
   pub why-good : (j : Judgement) → good j ≡ eqb (why j) 0
   pub tarsta-good : (j : Judgement) → good j ≡ eqb (tarsta-byte j) 0
-  -- why is below 16, and tells all four
+  -- its weights, which are those of the paper; it is below 16, and tells all four
+  pub sync-8 : why (record { sync = true; mode = false; edc = false; address = false }) ≡ 8
+  pub mode-4 : why (record { sync = false; mode = true; edc = false; address = false }) ≡ 4
+  pub edc-2 : why (record { sync = false; mode = false; edc = true; address = false }) ≡ 2
+  pub address-1 : why address-alone ≡ 1
   pub why-below : (j : Judgement) → why j < 16
   pub why-tells : (i j : Judgement) → why i ≡ why j → i ≡ j
 

@@ -7,8 +7,8 @@ ghost use Rattle.sector.specs.Address.{valid};
 ghost use Rattle.sector.specs.Receive.{received};
 ghost use Rattle.sector.specs.Calls.{seal-reply, seal-sector, open-reply, open-sector, refused, judge-answer};
 
-mod bits;
 mod checks;
+mod facts;
 mod frame;
 mod header;
 
@@ -72,15 +72,8 @@ pub fn open(sector: &mut [u8]) -> Reply
 fn refused(number: u8) -> Judged
     ensures { λ r. ⌜ r ≡ refused number ⌝ }
 {
-    Judged {
-        number,
-        judgement: Judgement {
-            sync: false,
-            mode: false,
-            edc: false,
-            address: false,
-        },
-    }
+    let judgement = Judgement::none();
+    Judged { number, judgement }
 }
 
 // Judges an opened sector against the address that is expected of it.

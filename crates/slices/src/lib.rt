@@ -36,7 +36,7 @@ pub fn fill(bytes: &mut [u8], byte: u8)
     }
 }
 
-fn turned(byte: u8) -> u8
+fn complement(byte: u8) -> u8
     ensures { λ r. ⌜ r ≡ 255 - byte ⌝ }
 {
     255 - byte
@@ -49,7 +49,7 @@ pub fn invert(bytes: &mut [u8])
 {
     let mut i: usize = 0;
     while i < bytes.len() {
-        bytes[i] = turned(bytes[i]);
+        bytes[i] = complement(bytes[i]);
         i += 1;
     }
 }

@@ -160,7 +160,7 @@ impl Chip<'_> {
         result_of(answer).map(Verdict::of_result)
     }
 
-    /// What failed of the last sector that was taken; nothing from opening or [`reset`](Chip::reset) to the first.
+    /// What failed of the last sector that was stored; nothing from opening or [`reset`](Chip::reset) to the first.
     /// Refused sectors, DECEN low, [`srst`](Chip::srst) and reads keep it.
     pub fn why(&self) -> Facts {
         // SAFETY: the record is ours and only read.

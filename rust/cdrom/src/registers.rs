@@ -39,7 +39,7 @@ pub const LDDBH: u16 = 0x3B;
 pub const APKSTA: u16 = 0x3D;
 /// w: what completion makes of [`DRDY`], [`CORR`] and [`CHECK`].
 pub const ASCSTA: u16 = 0x3E;
-/// r: [`STAERR`] and [`HCEI`] of the last sector that was taken.
+/// r: [`STAERR`] and [`HCEI`] of the last sector that was stored.
 pub const TARSTA: u16 = 0x80;
 /// rw: [`BLIMEN`] and [`BLIMS`].
 pub const BICCTL: u16 = 0x9A;

@@ -160,12 +160,12 @@ impl Happenings {
 
     /// A sector is stored: it has suffered the scratch that waited, or shows that there was none.
     fn note_arrival(&mut self, step: &Step) {
-        let (hurt, outlasted) = (step.scratch.range(), std::mem::take(&mut self.disc.outlasted));
+        let (inverted, outlasted) = (step.scratch.range(), std::mem::take(&mut self.disc.outlasted));
         let gone = self.disc.gone.take();
-        if hurt.is_empty() {
+        if inverted.is_empty() {
             gone.iter().for_each(|what| self.count(what));
         }
-        if hurt.start < JUDGED && !hurt.is_empty() {
+        if inverted.start < JUDGED && !inverted.is_empty() {
             self.count("scratch shown by its sector");
             outlasted.iter().for_each(|what| self.count(what));
             self.disc.gone = Some("scratch gone after its sector");
@@ -173,10 +173,10 @@ impl Happenings {
         let (Some(before), Some(after)) = (step.before, step.after) else {
             return;
         };
-        let to_minute = hurt.end == MINUTE_PLACE + 1;
+        let to_minute = inverted.end == MINUTE_PLACE + 1;
         self.count_if(to_minute && !after.facts.address, "scratch that makes the minute the expected one");
-        self.count_if(after.facts.is_good() && !hurt.is_empty(), "scratch in a good sector");
-        self.disc.inverted.insert(before.b, hurt);
+        self.count_if(after.facts.is_good() && !inverted.is_empty(), "scratch in a good sector");
+        self.disc.inverted.insert(before.b, inverted);
     }
 
     fn note_inverted_word(&mut self, step: &Step) {

@@ -19,11 +19,11 @@ abbrev μ-loop : tie.MeasureT-loop
 loop-holds : tie.Need-loop-holds Inv-loop μ-loop
 loop-holds c = (omega arith, refl, refl, refl)
 
-slice-read-turned : tie.Need-slice-read-turned Inv-loop μ-loop
-slice-read-turned c = omega arith
+slice-read-complement : tie.Need-slice-read-complement Inv-loop μ-loop
+slice-read-complement c = omega arith
 
-turned-requires : tie.Need-turned-requires Inv-loop μ-loop
-turned-requires c κs = search needs
+complement-requires : tie.Need-complement-requires Inv-loop μ-loop
+complement-requires c κs = search needs
 
 slice-write-bytes : tie.Need-slice-write-bytes Inv-loop μ-loop
 slice-write-bytes c = omega arith
@@ -39,7 +39,7 @@ loop-again c =
     let l = c .before .before .before .loop in
     let s₀ = c .before .before .before .before .before .args .bytes .now in
     let full = length-inverted s₀ in
-    let byte = c .turned .ensures ∙ ap (λ (x : ℕ). 255 - x) (ahead s₀ (l .bytes) (l .i) (l .inv .2)) ∙ sym (getD-inverted s₀ (l .i) (omega arith)) in (
+    let byte = c .complement .ensures ∙ ap (λ (x : ℕ). 255 - x) (ahead s₀ (l .bytes) (l .i) (l .inv .2)) ∙ sym (getD-inverted s₀ (l .i) (omega arith)) in (
       omega arith,
       grow (inverted s₀) (l .bytes) (l .i) _ (omega arith) (omega arith) (l .inv .1) byte,
       left s₀ (l .bytes) (l .i) _ (l .inv .2),
@@ -62,8 +62,8 @@ invert-spec =
     Inv-loop
     μ-loop
     loop-holds
-    slice-read-turned
-    turned-requires
+    slice-read-complement
+    complement-requires
     slice-write-bytes
     add-i
     loop-less

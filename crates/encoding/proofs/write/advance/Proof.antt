@@ -3,7 +3,8 @@ use Prim.Native.Nat.{ℕ, _+_, _<_}
 use mathlib.Core.Path.{sym, _∙_, ap}
 use native.Mathlib.Omega.{arith}
 use lib.ListN.{length}
-use Rattle.encoding.specs.Words.{word, decoded, at-position}
+use Rattle.encoding.specs.Words.{word, decoded}
+use Rattle.chip.specs.Chip.{at-position}
 use Rattle.encoding.proofs.Moved.{moved, position-is}
 use Rattle.encoding.proofs.write.advance.Statement.{statement}
 use Rattle.encoding.proofs.write.advance.Tie as tie

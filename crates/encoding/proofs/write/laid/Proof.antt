@@ -1,6 +1,6 @@
 -- `encoding::write::laid` meets its contract. Assumes nothing.
 use mathlib.Core.Path.{ap, _∙_}
-use Rattle.encoding.specs.Words.{pair}
+use Rattle.laws.specs.Bytes.{pair}
 use Rattle.encoding.proofs.Laid.{words-of}
 use borrow.Author.Needs.{needs}
 use Rattle.encoding.proofs.write.laid.Statement.{statement}
@@ -8,9 +8,6 @@ use Rattle.encoding.proofs.write.laid.Tie as tie
 
 packet-words-requires : tie.Need-packet-words-requires
 packet-words-requires c κs = search needs
-
-facts-requires : tie.Need-facts-requires
-facts-requires c κs = search needs
 
 pair-requires : tie.Need-pair-requires
 pair-requires c κs = search needs
@@ -21,6 +18,9 @@ pair-requires-2 c κs = search needs
 pair-requires-3 : tie.Need-pair-requires-3
 pair-requires-3 c κs = search needs
 
+why-byte-requires : tie.Need-why-byte-requires
+why-byte-requires c κs = search needs
+
 pair-requires-4 : tie.Need-pair-requires-4
 pair-requires-4 c κs = search needs
 
@@ -30,40 +30,41 @@ first-switches-requires c κs = search needs
 second-switches-requires : tie.Need-second-switches-requires
 second-switches-requires c κs = search needs
 
-array-read-t18 : tie.Need-array-read-t18
-array-read-t18 c = search needs
+array-read-t17 : tie.Need-array-read-t17
+array-read-t17 c = search needs
 
-array-read-t21 : tie.Need-array-read-t21
-array-read-t21 c = search needs
+array-read-t20 : tie.Need-array-read-t20
+array-read-t20 c = search needs
 
-array-read-t24 : tie.Need-array-read-t24
-array-read-t24 c = search needs
+array-read-t23 : tie.Need-array-read-t23
+array-read-t23 c = search needs
 
-array-read-t27 : tie.Need-array-read-t27
-array-read-t27 c = search needs
+array-read-t26 : tie.Need-array-read-t26
+array-read-t26 c = search needs
 
-array-read-t30 : tie.Need-array-read-t30
-array-read-t30 c = search needs
+array-read-t29 : tie.Need-array-read-t29
+array-read-t29 c = search needs
 
-array-read-t33 : tie.Need-array-read-t33
-array-read-t33 c = search needs
+array-read-t32 : tie.Need-array-read-t32
+array-read-t32 c = search needs
 
 returns : tie.Need-returns
 returns c =
     let a = c .before .before in
-    let p = a .before .before .before .before .before .before in
+    let b = a .before .before in
+    let p = b .before .before .before in
     let chip = p .before .before .before .before .before .args .chip in
-    let packet = p .packet-words .ensures in
-    let facts = a .before .before .before .before .facts .ensures in (
-      words-of chip (a .before .before .before .pair .ensures .0) (a .before .before .pair2 .ensures .0) (a .before .pair3 .ensures .0)
-          (a .pair4 .ensures .0 ∙ ap (pair (chip .controller .task .atcmd)) facts) (c .before .first-switches .ensures) (c .second-switches .ensures) (packet .0),
+    let packet = p .packet-words .ensures in (
+      words-of chip (b .before .before .pair .ensures .0) (b .before .pair2 .ensures .0) (b .pair3 .ensures .0)
+          (a .pair4 .ensures .0 ∙ ap (pair (chip .controller .task .atcmd)) (a .before .why-byte .ensures)) (c .before .first-switches .ensures)
+          (c .second-switches .ensures) (packet .0),
       record {
-        atlim = a .before .before .before .pair .ensures .1;
-        mbc = a .before .before .before .pair .ensures .2;
-        aterr = a .before .before .pair2 .ensures .1;
-        atint = a .before .before .pair2 .ensures .2;
-        atblo = a .before .pair3 .ensures .1;
-        atbhi = a .before .pair3 .ensures .2;
+        atlim = b .before .before .pair .ensures .1;
+        mbc = b .before .before .pair .ensures .2;
+        aterr = b .before .pair2 .ensures .1;
+        atint = b .before .pair2 .ensures .2;
+        atblo = b .pair3 .ensures .1;
+        atbhi = b .pair3 .ensures .2;
         atcmd = a .pair4 .ensures .1;
         packet = packet .1;
         twelve = packet .2;
@@ -75,17 +76,17 @@ laid-spec =
     tie.close
     (tie.spec
     packet-words-requires
-    facts-requires
     pair-requires
     pair-requires-2
     pair-requires-3
+    why-byte-requires
     pair-requires-4
     first-switches-requires
     second-switches-requires
-    array-read-t18
-    array-read-t21
-    array-read-t24
-    array-read-t27
-    array-read-t30
-    array-read-t33
+    array-read-t17
+    array-read-t20
+    array-read-t23
+    array-read-t26
+    array-read-t29
+    array-read-t32
     returns)

@@ -18,6 +18,9 @@ no-sequence-requires c κs = search needs
 no-status-requires : tie.Need-no-status-requires
 no-status-requires c κs = search needs
 
+none-requires : tie.Need-none-requires
+none-requires c κs = search needs
+
 first-task-requires : tie.Need-first-task-requires
 first-task-requires c κs = search needs
 
@@ -28,7 +31,7 @@ no-packet-requires : tie.Need-no-packet-requires
 no-packet-requires c κs = search needs
 
 returns : tie.Need-returns
-returns c = simp (c .no-packet .ensures, c .before .no-transfer .ensures, c .before .before .first-task .ensures, c .before .before .before .no-status .ensures, c .before .before .before .before .no-sequence .ensures, c .before .before .before .before .before .no-cache .ensures, c .before .before .before .before .before .before .no-buffering .ensures, c .before .before .before .before .before .before .before .no-counts .ensures)
+returns c = simp (c .no-packet .ensures, c .before .no-transfer .ensures, c .before .before .first-task .ensures, c .before .before .before .none .ensures, c .before .before .before .before .no-status .ensures, c .before .before .before .before .before .no-sequence .ensures, c .before .before .before .before .before .before .no-cache .ensures, c .before .before .before .before .before .before .before .no-buffering .ensures, c .before .before .before .before .before .before .before .before .no-counts .ensures)
 
 pub initial-spec : {M : Type 1} → statement M
 initial-spec =
@@ -39,6 +42,7 @@ initial-spec =
     no-cache-requires
     no-sequence-requires
     no-status-requires
+    none-requires
     first-task-requires
     no-transfer-requires
     no-packet-requires

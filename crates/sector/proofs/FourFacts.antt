@@ -86,6 +86,10 @@ facts = record {
   tarsta = λ a s. tarsta-is (sync-holds s) (mode-holds s) (edc-holds s) (address-holds a s);
   why-good = λ j. why-of-good (j .sync) (j .mode) (j .edc) (j .address);
   tarsta-good = λ j. tarsta-of-good (staerr j) (j .address);
+  sync-8 = refl;
+  mode-4 = refl;
+  edc-2 = refl;
+  address-1 = refl;
   why-below = below;
   why-tells = tells;
 }

@@ -6,7 +6,7 @@
 //! EDC covers, and no run within the sector is a multiple of its generator: so sync and mode never fail
 //! without it. A run that touches both sync and mode covers the address, and an inverted second or
 //! frame is no BCD number of its range, so that the address fails too. There are left: 0 and 1 (nothing
-//! hurt that is judged), 2 and 3, 6 and 7 with the mode byte, 10 and 11 with the sync, and 15
+//! inverted that is judged), 2 and 3, 6 and 7 with the mode byte, 10 and 11 with the sync, and 15
 //! with both. `tests/scratch.rs` goes through all runs.
 
 use super::{write, Writer};
@@ -96,7 +96,7 @@ impl Writer {
     }
 
     /// One that spoils a sector.
-    fn telling_scratch(&mut self) -> Call {
+    fn judged_scratch(&mut self) -> Call {
         let from = self.random.between(0, 20);
         let any = self.random.between(0, JUDGED - 1);
         let from = self.random.pick(&[from, from, any, JUDGED - 1]);
@@ -112,9 +112,9 @@ impl Writer {
     }
 }
 
-/// Stories. Each is put behind what makes the chip take a sector.
+/// Plans. Each is put behind what makes the chip take a sector.
 impl Writer {
-    pub(super) fn scratch_story(&mut self, chip: &Chip) -> Call {
+    pub(super) fn scratch_plan(&mut self, chip: &Chip) -> Call {
         self.make_ready(chip);
         match self.random.below(14) {
             0..=4 => self.scratch_outlasts(chip),
@@ -147,33 +147,33 @@ impl Writer {
         Call::Sector { address, fill: self.random.between(0, 255) }
     }
 
-    /// A scratch, something that must not touch it, and the sector.
+    /// A scratch, other_calls that must not touch it, and the sector.
     fn scratch_outlasts(&mut self, chip: &Chip) {
         if self.random.one_in(4) {
             // After a bad sector the chip is held.
             let bad = self.sector_at(chip.expected.next());
             self.plan.push_back(bad);
         }
-        let scratch = self.telling_scratch();
+        let scratch = self.judged_scratch();
         self.plan.push_back(scratch);
-        self.something_and_a_sector(chip);
+        self.calls_and_a_sector(chip);
     }
 
-    /// A bad sector, something that must leave its facts, and another sector, bad too now and then.
+    /// A bad sector, other_calls that must leave its facts, and another sector, bad too now and then.
     fn facts_outlast(&mut self, chip: &Chip) {
-        let (scratch, sector) = (self.telling_scratch(), self.sector_at(chip.expected));
+        let (scratch, sector) = (self.judged_scratch(), self.sector_at(chip.expected));
         self.plan.extend([scratch, sector]);
         if self.random.one_in(3) {
-            let scratch = self.telling_scratch();
+            let scratch = self.judged_scratch();
             self.plan.push_back(scratch);
         }
-        self.something_and_a_sector(chip);
+        self.calls_and_a_sector(chip);
     }
 
     /// The sector at the end is taken, also by a chip that was held.
-    fn something_and_a_sector(&mut self, chip: &Chip) {
-        let something = self.something(chip);
-        self.plan.extend(something);
+    fn calls_and_a_sector(&mut self, chip: &Chip) {
+        let other_calls = self.other_calls(chip);
+        self.plan.extend(other_calls);
         if self.random.one_in(5) {
             self.plan.push_back(Call::Reset);
             self.begin();
@@ -185,7 +185,7 @@ impl Writer {
     }
 
     /// What touches neither a scratch nor, where no sector is taken, the facts.
-    fn something(&mut self, chip: &Chip) -> Vec<Call> {
+    fn other_calls(&mut self, chip: &Chip) -> Vec<Call> {
         let sector = self.sector_at(chip.expected);
         match self.random.below(8) {
             0 => vec![Call::Srst],
@@ -202,19 +202,19 @@ impl Writer {
 
     /// Count 0 takes it back, wherever it is said to begin.
     fn scratch_is_taken_back(&mut self, chip: &Chip) {
-        let (scratch, sector) = (self.telling_scratch(), self.sector_at(chip.expected));
+        let (scratch, sector) = (self.judged_scratch(), self.sector_at(chip.expected));
         let from = self.random.between(0, 2352);
         self.plan.extend([scratch, Call::Scratch { from, count: 0 }, sector]);
     }
 
     fn scratch_is_replaced(&mut self, chip: &Chip) {
-        let (first, second) = (self.telling_scratch(), self.scratch());
+        let (first, second) = (self.judged_scratch(), self.scratch());
         let sector = self.sector_at(chip.expected);
         self.plan.extend([first, second, sector]);
     }
 
     fn opening_clears(&mut self) {
-        let (scratch, ring) = (self.telling_scratch(), self.random.between(3, 25));
+        let (scratch, ring) = (self.judged_scratch(), self.random.between(3, 25));
         self.plan.extend([scratch, Call::Open { ring }]);
         self.begin();
     }
@@ -225,7 +225,7 @@ impl Writer {
         self.plan.extend([BY_RING, write(0x9C, 0x60), DECODER_ON, sector]);
     }
 
-    /// The address fits because it was hurt.
+    /// The address fits because it was inverted.
     fn minute_becomes_the_expected_one(&mut self, chip: &Chip) {
         let (minute, inverted) = self.random.pick(&INVERTED_MINUTES);
         let address = Address { minute, ..chip.expected };

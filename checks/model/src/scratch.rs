@@ -62,11 +62,11 @@ mod tests {
     fn all_bits_of_the_run_and_no_others_are_inverted() {
         let sector: Vec<u8> = (0..SECTOR_BYTES).map(|place| place as u8).collect();
         for (from, count) in [(0, 0), (0, 1), (11, 5), (2351, 1), (0, 2352), (2352, 0)] {
-            let inverted = Scratch::new(from, count).unwrap();
-            let arrived = inverted.over(sector.clone());
+            let scratch = Scratch::new(from, count).unwrap();
+            let arrived = scratch.over(sector.clone());
             let inverted = |place: usize| place >= from as usize && place < (from + count) as usize;
             assert!((0..SECTOR_BYTES).all(|place| arrived[place] ^ sector[place] == 255 * inverted(place) as u8));
-            assert_eq!(inverted.is_none(), arrived == sector);
+            assert_eq!(scratch.is_none(), arrived == sector);
         }
     }
 }

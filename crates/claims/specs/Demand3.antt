@@ -80,6 +80,8 @@ Faithful M (c ∷ cs) s b =
 
 -- The claim, over all lists of calls, all sizes and all bytes in either memory
 pub record Demand3 (M : Machine) : Type 0 where
+  -- two rings
   pub sizes : (n m : ℕ) → 3 ≤ n → n ≤ m → m ≤ 255 → (x y : List ℕ) → length x ≡ n * 2560 → length y ≡ m * 2560 → (cs : List Call)
       → Agree M cs (M .opened n x) (M .opened m y) false
+  -- the book: words and facts
   pub words : (n : ℕ) → 3 ≤ n → n ≤ 255 → (x : List ℕ) → length x ≡ n * 2560 → (cs : List Call) → Faithful M cs (M .opened n x) first-book

@@ -97,8 +97,8 @@ static void fit_code(struct writer *w)
         w->sector[CODE_OFFSET + place] = (uint8_t)(code >> 8 * place);
 }
 
-/* The code is made to fit the damaged bytes before it, and damaged last: so each fact comes alone and with any other. Scrambling is its
- * own inverse: an opened sector that is opened again is scrambled. */
+/* The code is made to fit the damaged bytes before it, and damaged last: so each fact comes alone and with any other. The parity is left
+ * as it was, since the chip does not judge it. Scrambling is its own inverse: an opened sector that is opened again is scrambled. */
 static void spoil(struct writer *w, uint16_t why)
 {
     cdrom_open(w->sector, sizeof w->sector);
@@ -115,7 +115,7 @@ static void spoil(struct writer *w, uint16_t why)
 }
 
 /* The sector that is due, or one of another place; sealed, as it lies on the disc. Some have a damaged byte, others fail in facts that
- * are drawn. */
+ * are drawn. Sealing takes the user bytes alone; those behind them are drawn too, so that a seed gives the calls that it always gave. */
 static struct call sector_call(struct writer *w)
 {
     struct call call = {.kind = SECTOR, .one = w->minute, .two = w->second, .three = w->frame};

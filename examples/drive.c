@@ -112,7 +112,7 @@ static uint16_t user_word(uint16_t frame, size_t place)
     return (uint16_t)(user_byte(frame, 2 * place) | user_byte(frame, 2 * place + 1) << 8);
 }
 
-/* The sector as it lies on the disc: sealed, so with its code, and scrambled. A disc's parity bytes are not judged. */
+/* The sector as it lies on the disc: sealed, so with its code and parity, and scrambled. The chip does not judge the parity. */
 static void bring(uint16_t frame, int is_damaged, uint32_t expected)
 {
     uint8_t sector[CDROM_SECTOR_BYTES] = {0};

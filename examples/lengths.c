@@ -4,8 +4,9 @@
  *   make examples && valgrind --error-exitcode=1 --leak-check=full -q target/examples/lengths
  *
  * All that is lent lies in heap blocks of exactly that length, so that valgrind sees any byte that is touched beyond. Rings, the words'
- * room, the bench's buffers and the record of an opening are left as malloc gives them: valgrind then sees whether a byte that nobody
- * wrote decides an answer. The exit status is 1 where an answer is not the one that is expected. */
+ * room, the bench's buffers, the record of an opening and all but the user bytes of a sector that is sealed are left as malloc gives
+ * them: valgrind then sees whether a byte that nobody wrote decides an answer. The exit status is 1 where an answer is not the one that
+ * is expected. */
 #include <stdio.h>
 #include <stdlib.h>
 #include <string.h>
@@ -16,6 +17,7 @@
 #define RING_BYTES (BLOCKS * CDROM_BLOCK_BYTES)
 #define WORDS_OF_A_BLOCK (CDROM_USER_BYTES / 2)
 #define STALE 0xEE
+#define PARITY_HOLDS 0x100
 
 static unsigned answers = 0;
 static unsigned wrong = 0;
@@ -65,11 +67,11 @@ static void take_back_stale(const char *what, struct lent lent)
     free(lent.block);
 }
 
-/* A good sector at 00:02:00, where an opened chip expects its first; all its user bytes are 1. */
+/* A good sector at 00:02:00, where an opened chip expects its first; all its user bytes are 1. Sealing takes no others. */
 static struct lent lend_sector(void)
 {
     struct lent sector = lend(CDROM_SECTOR_BYTES);
-    memset(sector.bytes, 1, sector.length);
+    memset(sector.bytes + CDROM_USER_OFFSET, 1, CDROM_USER_BYTES);
     expect("seal", sector.length, cdrom_seal(sector.bytes, sector.length, 0, 2, 0), CDROM_DONE);
     return sector;
 }
@@ -85,6 +87,7 @@ static void refuse_sector(size_t length)
     expect("open", length, cdrom_open(sector.bytes, length), CDROM_WRONG_LENGTH);
     expect("judge", length, cdrom_judge(sector.bytes, length, 0, 2, 0), CDROM_WRONG_LENGTH);
     expect("judge at 00:60:00", length, cdrom_judge(sector.bytes, length, 0, 60, 0), CDROM_WRONG_LENGTH);
+    expect("parity", length, cdrom_parity(sector.bytes, length), CDROM_WRONG_LENGTH);
     take_back_stale("a refused sector", sector);
 }
 
@@ -93,6 +96,7 @@ static void take_sector(void)
     struct lent sector = lend_sector();
     expect("open", sector.length, cdrom_open(sector.bytes, sector.length), CDROM_DONE);
     expect("judge", sector.length, cdrom_judge(sector.bytes, sector.length, 0, 2, 0), CDROM_DONE);
+    expect("parity", sector.length, cdrom_parity(sector.bytes, sector.length), PARITY_HOLDS);
     free(sector.block);
 }
 

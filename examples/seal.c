@@ -1,5 +1,5 @@
-/* Seals a sector, opens it and judges it, whole and damaged: a judgement's result is why, the sum of what failed (CDROM_WHY_..). From
- * the repository's folder, after `make lib`:
+/* Seals a sector, opens it, judges it and checks its parity, whole and damaged. A judgement's result is why, the sum of what failed
+ * (CDROM_WHY_..); that of a parity check is 1 where the parity holds and 0 where not. From the repository's folder, after `make lib`:
  *
  *   make examples && target/examples/seal
  *
@@ -22,17 +22,77 @@ static void show(const char *what, uint32_t found, uint32_t expected)
     }
 }
 
+static void check(int holds, const char *what)
+{
+    if (!holds) {
+        printf("not so: %s\n", what);
+        wrong = 1;
+    }
+}
+
 static uint32_t done_with(uint32_t result)
 {
     return CDROM_DONE | result << 8;
 }
 
-/* Judges the sector at 00:02:00 with one byte changed, and puts that back. */
-static void show_damage(const char *what, uint8_t *sector, size_t place, uint32_t why)
+/* Judges a sector that is expected at 00:02:00, and checks its parity. */
+static void show_tests(const char *what, const uint8_t *sector, uint32_t why, uint32_t parity)
+{
+    char line[64];
+    snprintf(line, sizeof line, "judge: %s", what);
+    show(line, cdrom_judge(sector, CDROM_SECTOR_BYTES, 0, 2, 0), done_with(why));
+    snprintf(line, sizeof line, "parity: %s", what);
+    show(line, cdrom_parity(sector, CDROM_SECTOR_BYTES), done_with(parity));
+}
+
+/* The same with one byte changed, which is put back. */
+static void show_damage(const char *what, uint8_t *sector, size_t place, uint32_t why, uint32_t parity)
 {
     sector[place] ^= 0x10;
-    show(what, cdrom_judge(sector, CDROM_SECTOR_BYTES, 0, 2, 0), done_with(why));
+    show_tests(what, sector, why, parity);
     sector[place] ^= 0x10;
+}
+
+/* The sync bytes are in the code and not in the parity; a parity byte is in the parity alone, and not judged. */
+static void show_damages(uint8_t *sector)
+{
+    show_damage("a damaged user byte", sector, CDROM_USER_OFFSET + 100, CDROM_WHY_EDC, 0);
+    show_damage("a damaged sync byte", sector, 5, CDROM_WHY_SYNC | CDROM_WHY_EDC, 1);
+    show_damage("a damaged address byte", sector, 13, CDROM_WHY_EDC | CDROM_WHY_ADDRESS, 0);
+    show_damage("a damaged mode byte", sector, 15, CDROM_WHY_MODE | CDROM_WHY_EDC, 0);
+    show_damage("a damaged parity byte", sector, 2100, 0, 0);
+}
+
+/* Of zeros the code is 0 and the parity too, so that both hold. */
+static void show_no_sectors(void)
+{
+    uint8_t bytes[CDROM_SECTOR_BYTES];
+    memset(bytes, 0xA5, sizeof bytes);
+    show_tests("what is no sector", bytes, 15, 0);
+    memset(bytes, 0, sizeof bytes);
+    show_tests("zeros", bytes, CDROM_WHY_SYNC | CDROM_WHY_MODE | CDROM_WHY_ADDRESS, 1);
+}
+
+static void show_code(const uint8_t *sector)
+{
+    uint32_t code = cdrom_edc(sector, 2064);
+    uint32_t stored = sector[2064] | sector[2065] << 8 | sector[2066] << 16 | (uint32_t)sector[2067] << 24;
+    printf("%-40s 0x%08X, stored 0x%08X\n", "code of bytes 0 to 2,063", (unsigned)code, (unsigned)stored);
+    check(code == stored, "the code is stored, its low byte first");
+}
+
+/* Sealing takes the user bytes and nothing else: around them it may find its own bytes or any others. */
+static void seal_again(const uint8_t *sealed, const uint8_t *opened)
+{
+    uint8_t sector[CDROM_SECTOR_BYTES];
+    memcpy(sector, opened, sizeof sector);
+    show("seal the opened sector again", cdrom_seal(sector, sizeof sector, 0, 2, 0), done_with(0));
+    check(memcmp(sector, sealed, sizeof sector) == 0, "it is the same sector");
+
+    memset(sector, 0xA5, sizeof sector);
+    memcpy(sector + CDROM_USER_OFFSET, opened + CDROM_USER_OFFSET, CDROM_USER_BYTES);
+    show("seal its user bytes among others", cdrom_seal(sector, sizeof sector, 0, 2, 0), done_with(0));
+    check(memcmp(sector, sealed, sizeof sector) == 0, "it is the same sector");
 }
 
 /* The two bits of register 80h by their rule: sync, mode or EDC failed; the address did. The macro evaluates its argument once, so that
@@ -43,44 +103,31 @@ static void check_tarsta(void)
     for (uint32_t why = 0; why <= 15; why++) {
         uint32_t staerr = why & (CDROM_WHY_SYNC | CDROM_WHY_MODE | CDROM_WHY_EDC) ? CDROM_STAERR : 0;
         uint32_t hcei = why & CDROM_WHY_ADDRESS ? CDROM_HCEI : 0;
-        if (CDROM_TARSTA_OF(next++) != (staerr | hcei) || next != why + 1) {
-            printf("CDROM_TARSTA_OF(%u) is not register 80h\n", (unsigned)why);
-            wrong = 1;
-        }
+        check(CDROM_TARSTA_OF(next++) == (staerr | hcei) && next == why + 1, "CDROM_TARSTA_OF makes register 80h");
     }
 }
 
 int main(void)
 {
     static const char text[] = "no block shall count that was not read and checked";
-    uint8_t sector[CDROM_SECTOR_BYTES] = {0};
+    uint8_t sector[CDROM_SECTOR_BYTES] = {0}, sealed[CDROM_SECTOR_BYTES];
     uint8_t *user = sector + CDROM_USER_OFFSET;
     memcpy(user, text, sizeof text);
 
     show("seal at 00:60:00, no address", cdrom_seal(sector, sizeof sector, 0, 60, 0), CDROM_BAD_ADDRESS);
     show("seal one byte less", cdrom_seal(sector, sizeof sector - 1, 0, 2, 0), CDROM_WRONG_LENGTH);
     show("seal at 00:02:00", cdrom_seal(sector, sizeof sector, 0, 2, 0), done_with(0));
+    memcpy(sealed, sector, sizeof sealed);
     show("open", cdrom_open(sector, sizeof sector), done_with(0));
-    show("judge at 00:02:00", cdrom_judge(sector, sizeof sector, 0, 2, 0), done_with(0));
-    show("judge at 00:02:01", cdrom_judge(sector, sizeof sector, 0, 2, 1), done_with(CDROM_WHY_ADDRESS));
-    if (memcmp(user, text, sizeof text) != 0) {
-        printf("the user bytes are not those that were sealed\n");
-        wrong = 1;
-    }
+    check(memcmp(user, text, sizeof text) == 0, "the user bytes are those that were sealed");
+    seal_again(sealed, sector);
 
-    uint32_t code = cdrom_edc(sector, 2064);
-    uint32_t stored = sector[2064] | sector[2065] << 8 | sector[2066] << 16 | (uint32_t)sector[2067] << 24;
-    printf("%-40s 0x%08X, stored 0x%08X\n", "code of bytes 0 to 2,063", (unsigned)code, (unsigned)stored);
-    if (code != stored)
-        wrong = 1;
-
-    show_damage("judge with a damaged user byte", sector, CDROM_USER_OFFSET + 100, CDROM_WHY_EDC);
-    show_damage("judge with a damaged sync byte", sector, 5, CDROM_WHY_SYNC | CDROM_WHY_EDC);
-    show_damage("judge with a damaged address byte", sector, 13, CDROM_WHY_EDC | CDROM_WHY_ADDRESS);
-    show_damage("judge with a damaged mode byte", sector, 15, CDROM_WHY_MODE | CDROM_WHY_EDC);
-    show_damage("judge with a damaged parity byte", sector, 2100, 0);
-    memset(sector, 0xA5, sizeof sector);
-    show("judge what is no sector", cdrom_judge(sector, sizeof sector, 0, 2, 0), done_with(15));
+    show_code(sector);
+    show_tests("the opened sector", sector, 0, 1);
+    show("judge: the same at 00:02:01", cdrom_judge(sector, sizeof sector, 0, 2, 1), done_with(CDROM_WHY_ADDRESS));
+    show("parity: one byte less", cdrom_parity(sector, sizeof sector - 1), CDROM_WRONG_LENGTH);
+    show_damages(sector);
+    show_no_sectors();
     check_tarsta();
     return wrong;
 }

@@ -116,7 +116,7 @@ static uint32_t open_ring(uint16_t blocks)
     return answer;
 }
 
-/* A sector whose user bytes are all equal, and parity 0, with its scratch. One that is refused leaves the scratch to the next. */
+/* A sector whose user bytes are all equal, with its scratch. One that is refused leaves the scratch to the next. */
 static uint32_t sector(const uint16_t *n)
 {
     uint8_t bytes[CDROM_SECTOR_BYTES] = {0};

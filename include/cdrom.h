@@ -18,10 +18,14 @@ extern "C" {
 
 /* Goes up when a name, a size, a number or a call of this header changes its meaning.
  *
- * From 1 to 2: the result of cdrom_judge is why (CDROM_WHY_..), of which CDROM_TARSTA_OF makes the bits of register 80h that it was;
- * the words of a chip's record mean something else, so that a record that was kept under 1 must not be handed over; cdrom_chip_why is
- * new; the bench prints `why=` before `irq=`, and takes the line `call=scratch`. docs/FIRMWARE.md says what to change in code for 1. */
-#define CDROM_VERSION 2
+ * From 2 to 3: cdrom_seal writes the parity, where it kept the bytes that were there, so that the sectors of cdrom_bench have it too;
+ * cdrom_parity is new. The chip's record and all other calls are as in 2.
+ *
+ * From 1 to 2: the result of cdrom_judge is why (CDROM_WHY_..); a record that was kept under 1 must not be handed over; cdrom_chip_why is
+ * new; the bench prints `why=` before `irq=`, and takes the line `call=scratch`.
+ *
+ * docs/FIRMWARE.md says what to change in code for 1 and for 2. */
+#define CDROM_VERSION 3
 
 #define CDROM_SECTOR_BYTES 2352
 
@@ -53,9 +57,11 @@ extern "C" {
 
 /* -- Sectors ------------------------------------------------------------------------------------------------------------------- */
 
-/* Makes the buffer a scrambled sector at an address, where it lies: writes bytes 0 to 15, the code and the zeros after it around the
- * user bytes (16 to 2,063) and parity bytes (2,076 to 2,351) that are there, then scrambles bytes 12 to 2,351. Minute 0..99, second
- * 0..59, frame 0..74. Refusals: 1 another length, 3 the address. The result is 0. */
+/* Makes the buffer a scrambled sector at an address, where it lies. The user bytes (16 to 2,063) that are there become the sector's. All
+ * other bytes are written, whatever was there: sync, address and mode (0 to 15), the code (2,064 to 2,067), zeros (2,068 to 2,075), and
+ * the P and Q parity of ECMA-130 Annex A (2,076 to 2,351). Then bytes 12 to 2,351 are scrambled. A sealed sector that is opened and sealed
+ * again at its address is the same, byte for byte. Minute 0..99, second 0..59, frame 0..74. Refusals: 1 another length, 3 the address. The
+ * result is 0. */
 uint32_t cdrom_seal(uint8_t *sector, size_t length, uint16_t minute, uint16_t second, uint16_t frame);
 
 /* Descrambles a sector where it lies. Refusals: 1 another length. The result is 0. */
@@ -77,6 +83,15 @@ uint32_t cdrom_open(uint8_t *sector, size_t length);
  * descrambled: they are judged as they are, without cdrom_open. Refusals: 1 another length, 3 the address. The result is why: 0 for a
  * good sector, or the CDROM_WHY_.. of all that failed. The whole answer is 0 exactly for a good sector. */
 uint32_t cdrom_judge(const uint8_t *sector, size_t length, uint16_t minute, uint16_t second, uint16_t frame);
+
+/* Whether the parity of an opened sector holds: 43 P words and 26 Q words in each of two byte planes, 138 in all. The result is 1 if every
+ * one holds, and 0 if one does not. So the whole answer is 0x100 for yes, 0 for no and 1 for a refusal: here 0 is not the good one, and
+ * CDROM_RESULT of the answer is true exactly for yes. Refusals: 1 another length.
+ *
+ * Parity is none of the four that cdrom_judge tests. A good sector may have wrong parity, since bytes 2,068 to 2,351 are not judged, and a
+ * bad one right parity: 2,352 zeros are a yes. The words are those of mode 1, whatever byte 15 says. They cover bytes 12 to 2,351, and not
+ * the sync bytes: where all hold, a change of any one covered byte makes it a no. */
+uint32_t cdrom_parity(const uint8_t *sector, size_t length);
 
 /* The error detection code of any number of bytes; it is no answer, and never refused. */
 uint32_t cdrom_edc(const uint8_t *bytes, size_t length);

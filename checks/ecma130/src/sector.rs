@@ -1,6 +1,6 @@
 //! Sealing, opening and judging a sector of 2,352 bytes.
 
-use crate::{edc_sliced, scramble, Address, Refusal};
+use crate::{edc_sliced, scramble, write_parity, Address, Refusal, P_PARITY_START};
 
 pub const SECTOR_BYTES: usize = 2352;
 pub const USER_START: usize = 16;
@@ -8,10 +8,9 @@ pub const USER_BYTES: usize = 2048;
 pub const EDC_START: usize = 2064;
 pub const SYNC: [u8; 12] = [0, 255, 255, 255, 255, 255, 255, 255, 255, 255, 255, 0];
 
-const HEADER_START: usize = 12;
+pub(crate) const HEADER_START: usize = 12;
 const MODE_PLACE: usize = 15;
 const ZEROS_START: usize = 2068;
-const PARITY_START: usize = 2076;
 
 /// What of a sector failed when it was judged. Each is a test of its own, and
 /// none hides another.
@@ -41,7 +40,7 @@ impl Facts {
     }
 }
 
-/// Writes all but user and parity bytes, then scrambles.
+/// Writes all but the user bytes, then scrambles.
 pub fn seal(sector: &mut [u8], address: Address) -> Result<(), Refusal> {
     seal_with(edc_sliced, sector, address)
 }
@@ -55,7 +54,8 @@ pub fn seal_with(edc: impl Fn(&[u8]) -> u32, sector: &mut [u8], address: Address
     sector[MODE_PLACE] = 1;
     let code = edc(&sector[..EDC_START]);
     sector[EDC_START..ZEROS_START].copy_from_slice(&code.to_le_bytes());
-    sector[ZEROS_START..PARITY_START].fill(0);
+    sector[ZEROS_START..P_PARITY_START].fill(0);
+    write_parity(sector)?;
     scramble(&mut sector[HEADER_START..]);
     Ok(())
 }
@@ -85,7 +85,7 @@ pub fn judge_with(edc: impl Fn(&[u8]) -> u32, sector: &[u8], expected: Address) 
     })
 }
 
-fn check_length(sector: &[u8]) -> Result<(), Refusal> {
+pub(crate) fn check_length(sector: &[u8]) -> Result<(), Refusal> {
     if sector.len() == SECTOR_BYTES {
         Ok(())
     } else {
@@ -104,7 +104,7 @@ fn check_address(address: Address) -> Result<(), Refusal> {
 #[cfg(test)]
 mod tests {
     use super::*;
-    use crate::edc_bitwise;
+    use crate::{edc_bitwise, parity_holds};
 
     const ADDRESS: Address = Address::new(12, 34, 56);
 
@@ -116,13 +116,34 @@ mod tests {
     }
 
     #[test]
-    fn sealing_keeps_user_and_parity_bytes() {
+    fn sealing_keeps_user_bytes_and_writes_all_others() {
         let sector = opened_sector();
-        for place in (USER_START..EDC_START).chain(PARITY_START..SECTOR_BYTES) {
-            assert_eq!(sector[place], (place * 7) as u8);
-        }
-        assert_eq!(sector[ZEROS_START..PARITY_START], [0; 8]);
+        assert!((USER_START..EDC_START).all(|place| sector[place] == (place * 7) as u8));
+        assert_eq!(sector[ZEROS_START..P_PARITY_START], [0; 8]);
         assert!(judge(&sector, ADDRESS).unwrap().is_good());
+        assert_eq!(parity_holds(&sector, false), Ok(true));
+    }
+
+    #[test]
+    fn sealing_does_not_depend_on_what_lay_beside_the_user_bytes() {
+        let mut sealed = opened_sector();
+        open(&mut sealed).unwrap();
+        for stale in [0x00, 0x5A, 0xFF] {
+            let mut sector = opened_sector();
+            sector[..USER_START].fill(stale);
+            sector[EDC_START..].fill(stale);
+            seal(&mut sector, ADDRESS).unwrap();
+            assert_eq!(sector, sealed);
+        }
+    }
+
+    #[test]
+    fn an_opened_sector_is_sealed_as_it_was() {
+        let mut sector = opened_sector();
+        let before = sector.clone();
+        seal(&mut sector, ADDRESS).unwrap();
+        open(&mut sector).unwrap();
+        assert_eq!(sector, before);
     }
 
     #[test]

@@ -4,14 +4,16 @@
 use crate::buffers::Buffers;
 use crate::call::{Answer, Call};
 use crate::difference::{same, same_rows, Difference, Part};
-use crate::expectation::judged;
-use crate::happenings::Happenings;
+use crate::expectation::{judged, parity_checked, sealed};
+use crate::happenings::{parity_name, Happenings};
 use crate::library::Library;
 use crate::memory::Memory;
 use crate::noting::Step;
+use crate::parity::MAKINGS;
 use crate::record::{self, Record};
 use crate::soundness::faults;
 use crate::state::{compare_records, State};
+use ecma130::Address;
 use model::Random;
 
 pub struct Checker<'a, L: Library> {
@@ -40,7 +42,7 @@ impl<'a, L: Library> Checker<'a, L> {
             .and_then(|()| before.compare_left(&call, &wanted, &left))
             .and_then(|()| self.compare_irq(&mut left))
             .and_then(|()| self.compare_why(&mut left))
-            .and_then(|()| self.compare_judging(&call, &before.record, &buffers))
+            .and_then(|()| self.compare_beside(&call, &before.record, &buffers))
             .and_then(|()| buffers.compare())
             .and_then(|()| compare_memory(memory, &call, &before.record, &found));
         state.go_on(&call, &wanted, left);
@@ -72,17 +74,49 @@ impl<'a, L: Library> Checker<'a, L> {
         compare_records(&kept, record)
     }
 
-    /// The call's sector, opened and judged beside the chip, whether or not the chip takes it.
-    fn compare_judging(&mut self, call: &Call, record: &Record, buffers: &Buffers) -> Result<(), Part> {
-        if !matches!(call, Call::Sector { .. }) {
+    /// The calls that need no chip, at each sector that a chip is given: that sector, whether or not the
+    /// chip takes it, a buffer of its length, and a sector that was made for the parity check.
+    fn compare_beside(&mut self, call: &Call, record: &Record, buffers: &Buffers) -> Result<(), Part> {
+        let Call::Sector { sector, .. } = call else {
             return Ok(());
-        }
-        let (opened, expected) = (buffers.opened_sector(), record::expected(record));
-        let mut lent = opened.clone();
-        let (wanted, found) = (judged(&opened, expected), self.library.judge(&mut lent, expected));
+        };
+        let (opened, address) = (buffers.opened_sector(), record::expected(record));
+        self.compare_judging(&opened, address)?;
+        self.compare_parity(&opened)?;
+        self.compare_sealing(sector.length, address)?;
+        let making = self.random.pick(&MAKINGS);
+        let made = making.make(&mut self.random);
+        let found = self.compare_parity(&made)?;
+        same("the parity check by how the sector was made, given as the model's", making.answer, found)?;
+        self.happenings.count(&parity_name(making.name));
+        Ok(())
+    }
+
+    fn compare_judging(&mut self, opened: &[u8], expected: Address) -> Result<(), Part> {
+        let mut lent = opened.to_vec();
+        let (wanted, found) = (judged(opened, expected), self.library.judge(&mut lent, expected));
         same("the judgement", wanted, found)?;
-        same_rows("the judged sector, byte", &opened, &lent)?;
+        same_rows("the judged sector, byte", opened, &lent)?;
         self.happenings.note_judged(&wanted);
+        Ok(())
+    }
+
+    fn compare_parity(&mut self, opened: &[u8]) -> Result<Answer, Part> {
+        let mut lent = opened.to_vec();
+        let found = self.library.parity(&mut lent);
+        same("the parity check", parity_checked(opened), found)?;
+        same_rows("the checked sector, byte", opened, &lent)?;
+        Ok(found)
+    }
+
+    /// Over stale bytes, so that all but the user bytes must be written.
+    fn compare_sealing(&mut self, length: usize, address: Address) -> Result<(), Part> {
+        let mut expected = self.random.bytes(length);
+        let mut lent = expected.clone();
+        let (wanted, found) = (sealed(&mut expected, address), self.library.seal(&mut lent, address));
+        same("the sealing", wanted, found)?;
+        same_rows("the sealed sector, byte", &expected, &lent)?;
+        self.happenings.note_sealed(&wanted);
         Ok(())
     }
 

@@ -1,8 +1,8 @@
-//! What a call must answer and leave, by the model, and what judging must, by the independent sector code.
+//! What a call must answer and leave, by the model, and what the calls on sectors must, by the independent sector code.
 
 use crate::call::{Answer, Call};
 use crate::library::Lent;
-use ecma130::{judge, Address};
+use ecma130::{judge, parity_holds, seal, Address, Refusal};
 use model::Chip;
 
 /// Runs the call on the model and on the memory that it is lent, and gives the answer.
@@ -33,8 +33,22 @@ pub fn answered(chip: &mut Chip, call: &Call, lent: Lent) -> Answer {
 
 /// The result is all that failed, as one number.
 pub fn judged(sector: &[u8], expected: Address) -> Answer {
-    match judge(sector, expected) {
-        Ok(facts) => Answer::Reply { number: 0, result: facts.why() as u32 },
+    reply(judge(sector, expected).map(|facts| facts.why() as u32))
+}
+
+/// Writes the sector too.
+pub fn sealed(sector: &mut [u8], address: Address) -> Answer {
+    reply(seal(sector, address).map(|()| 0))
+}
+
+/// The result is 1 where every word holds.
+pub fn parity_checked(sector: &[u8]) -> Answer {
+    reply(parity_holds(sector, false).map(u32::from))
+}
+
+fn reply(answer: Result<u32, Refusal>) -> Answer {
+    match answer {
+        Ok(result) => Answer::Reply { number: 0, result },
         Err(refusal) => Answer::Reply { number: refusal.number() as u32, result: 0 },
     }
 }

@@ -2,6 +2,7 @@
 //! got as far as a transfer is not taken for a thorough one.
 
 use crate::limits::{NEIGHBOURS, SPOILINGS};
+use crate::parity::MAKINGS;
 use std::collections::BTreeMap;
 
 /// The reply numbers that each call can give. A look has none.
@@ -53,7 +54,7 @@ pub const WRONG_RINGS: [&str; 5] =
 const LENT_A_RING: [&str; 4] = ["sector", "look", "word", "words"];
 
 /// All else that is counted.
-const NAMES: [&str; 116] = [
+const NAMES: [&str; 123] = [
     "ring of 3 blocks opened",
     "ring of 4 blocks opened",
     "ring of 25 blocks opened",
@@ -64,6 +65,8 @@ const NAMES: [&str; 116] = [
     "opening over a chip in a transfer",
     "good sector",
     "good sector with other bytes for its zeros",
+    "good sector with wrong parity",
+    "bad sector with right parity",
     "sector with STAERR and HCEI",
     "80h read as 01h",
     "80h read as 40h",
@@ -82,6 +85,9 @@ const NAMES: [&str; 116] = [
     "why kept over a sector refused (9)",
     "judging refused, wrong length (1)",
     "judging refused, bad address (3)",
+    "sector sealed over stale bytes",
+    "sealing refused, wrong length (1)",
+    "sealing refused, bad address (3)",
     "sector of 0 bytes",
     "sector of 1 byte",
     "sector of 2,351 bytes",
@@ -165,6 +171,8 @@ const NAMES: [&str; 116] = [
     "look with bytes",
     "look in a ring above 25 blocks",
     "look at a half-read block",
+    "look with bytes of P parity",
+    "look with bytes of Q parity",
     "look with TCC 0",
     "look without a window",
     "look at an unsound record",
@@ -218,6 +226,11 @@ pub fn judged_name(why: u32) -> String {
     format!("sector judged, why {why}")
 }
 
+/// Of a sector that was made for the parity check.
+pub fn parity_name(making: &str) -> String {
+    format!("parity checked of a sector {making}")
+}
+
 /// Of a record as it stands before a call that it is refused for.
 pub fn unsound_why_name(why: u32) -> String {
     format!("record unsound, why {why}")
@@ -249,6 +262,7 @@ fn demanded() -> Vec<String> {
     for call in LENT_A_RING {
         names.extend(WRONG_RINGS.map(|ring| ring_name(call, ring)));
     }
+    names.extend(MAKINGS.iter().map(|making| parity_name(making.name)));
     names.extend(SPOILINGS.iter().map(|change| spoiling_name(change.name)));
     names.extend(NEIGHBOURS.iter().map(|change| neighbour_name(change.name)));
     names.extend(LOADED.map(loaded_name));

@@ -14,6 +14,7 @@ mod limits;
 mod loading;
 mod memory;
 mod noting;
+mod parity;
 pub mod record;
 mod run;
 mod sectors;

@@ -24,6 +24,12 @@ pub trait Library {
 
     /// Judges an opened sector, of any length.
     fn judge(&mut self, sector: &mut [u8], expected: Address) -> Answer;
+
+    /// Makes a sector of bytes of any length.
+    fn seal(&mut self, sector: &mut [u8], address: Address) -> Answer;
+
+    /// Checks the parity of an opened sector, of any length.
+    fn parity(&mut self, sector: &mut [u8]) -> Answer;
 }
 
 /// The archive that is linked.
@@ -55,6 +61,17 @@ impl Library for Linked {
         let Address { minute, second, frame } = expected;
         // SAFETY: pointer and length are those of a slice that is lent for the call, which only reads it.
         reply(unsafe { raw::cdrom_judge(sector.as_ptr(), sector.len(), minute, second, frame) })
+    }
+
+    fn seal(&mut self, sector: &mut [u8], address: Address) -> Answer {
+        let Address { minute, second, frame } = address;
+        // SAFETY: pointer and length are those of a slice that is lent for the call.
+        reply(unsafe { raw::cdrom_seal(sector.as_mut_ptr(), sector.len(), minute, second, frame) })
+    }
+
+    fn parity(&mut self, sector: &mut [u8]) -> Answer {
+        // SAFETY: as in `judge`.
+        reply(unsafe { raw::cdrom_parity(sector.as_ptr(), sector.len()) })
     }
 }
 

@@ -7,7 +7,7 @@ use crate::happenings::{
 use crate::record;
 use crate::sectors::{Damage, Sector, CUT_TO_FIT};
 use crate::state::State;
-use ecma130::Address;
+use ecma130::{Address, P_PARITY_START, Q_PARITY_START};
 use model::{Chip, BLOCK_BYTES};
 
 /// A call, its answer, and what it was made on.
@@ -53,6 +53,14 @@ impl Happenings {
             Some(0) => self.count(&judged_name(answer.result())),
             Some(1) => self.count("judging refused, wrong length (1)"),
             _ => self.count("judging refused, bad address (3)"),
+        }
+    }
+
+    pub fn note_sealed(&mut self, answer: &Answer) {
+        match answer.number() {
+            Some(0) => self.count("sector sealed over stale bytes"),
+            Some(1) => self.count("sealing refused, wrong length (1)"),
+            _ => self.count("sealing refused, bad address (3)"),
         }
     }
 
@@ -191,6 +199,8 @@ impl Happenings {
 
     fn note_damage(&mut self, damage: Damage) {
         self.count_if(!damage.is_judged(), "good sector");
+        self.count_if(!damage.is_judged() && damage.parity, "good sector with wrong parity");
+        self.count_if(damage.is_judged() && !damage.parity, "bad sector with right parity");
         self.count_if(!damage.is_judged() && damage.zeros, "good sector with other bytes for its zeros");
         self.count_if(damage.bits() == 0x41, "sector with STAERR and HCEI");
     }
@@ -341,6 +351,9 @@ impl Happenings {
         self.count_if(length > 0, "look with bytes");
         self.count_if(length > 0 && chip.blocks > 25, "look in a ring above 25 blocks");
         self.count_if(length > 0 && half_read, "look at a half-read block");
+        let (start, end) = (chip.window.offset, chip.window.offset + length);
+        self.count_if(start < Q_PARITY_START && end > P_PARITY_START, "look with bytes of P parity");
+        self.count_if(end > Q_PARITY_START, "look with bytes of Q parity");
         self.count_if(fits && chip.tcc == 0 && chip.window.words > 0, "look with TCC 0");
         self.count_if(fits && chip.tcc > 0 && chip.window.words == 0, "look without a window");
     }

@@ -2,8 +2,10 @@
 //! alone: the code is made to fit whatever else was changed, unless the code
 //! itself is to be wrong.
 
-use ecma130::{edc_by_table, scramble, Address, EDC_START, SECTOR_BYTES, SYNC, USER_START};
-use model::Random;
+use ecma130::{
+    edc_by_table, scramble, write_parity, Address, EDC_START, P_PARITY_START, SECTOR_BYTES, SYNC, USER_START,
+};
+use model::{Random, BLOCK_BYTES};
 
 const HEADER_START: usize = 12;
 const MODE_PLACE: usize = 15;
@@ -11,6 +13,9 @@ const ZEROS_START: usize = 2068;
 
 /// A length that is right where only its low sixteen bits are looked at.
 pub const CUT_TO_FIT: usize = SECTOR_BYTES + 65536;
+
+pub const WRONG_LENGTHS: [usize; 9] =
+    [0, 1, 2340, SECTOR_BYTES - 1, SECTOR_BYTES + 1, 2448, BLOCK_BYTES, 4704, CUT_TO_FIT];
 
 /// What is wrong with a sector.
 #[derive(Clone, Copy, Debug, Default, PartialEq, Eq)]
@@ -22,6 +27,8 @@ pub struct Damage {
     pub address: bool,
     /// The zeros behind the code, which no one judges.
     pub zeros: bool,
+    /// Nor is the parity judged. Without this damage it is that of all the bytes before it, damaged or not.
+    pub parity: bool,
 }
 
 /// A sector by its description; the bytes that it leaves open are random.
@@ -35,18 +42,28 @@ pub struct Sector {
 impl Damage {
     /// Any mixture of kinds, at least one of them judged.
     pub fn random(random: &mut Random) -> Damage {
-        Damage::of_why(random.between(1, 15), random.one_in(2))
+        Damage::of_why(random.between(1, 15)).with_unjudged(2, random)
     }
 
     /// One kind alone.
     pub fn single(random: &mut Random) -> Damage {
-        Damage::of_why(random.pick(&[1, 2, 4, 8]), random.one_in(2))
+        Damage::of_why(random.pick(&[1, 2, 4, 8])).with_unjudged(2, random)
+    }
+
+    /// None that is judged.
+    pub fn unjudged(random: &mut Random) -> Damage {
+        Damage::default().with_unjudged(8, random)
     }
 
     /// By the weights of the kinds.
-    fn of_why(why: u16, zeros: bool) -> Damage {
+    fn of_why(why: u16) -> Damage {
         let has = |weight: u16| why & weight != 0;
-        Damage { sync: has(8), mode: has(4), code: has(2), address: has(1), zeros }
+        Damage { sync: has(8), mode: has(4), code: has(2), address: has(1), ..Damage::default() }
+    }
+
+    /// With each of the kinds that are not judged once in so many times.
+    fn with_unjudged(self, times: u64, random: &mut Random) -> Damage {
+        Damage { zeros: random.one_in(times), parity: random.one_in(times), ..self }
     }
 
     pub fn is_judged(self) -> bool {
@@ -83,7 +100,10 @@ impl Sector {
             flip_one_of(&mut bytes[USER_START..ZEROS_START], random);
         }
         if !self.damage.zeros {
-            bytes[ZEROS_START..ZEROS_START + 8].fill(0);
+            bytes[ZEROS_START..P_PARITY_START].fill(0);
+        }
+        if !self.damage.parity {
+            write_parity(&mut bytes).expect("the bytes are those of a sector");
         }
         scramble(&mut bytes[HEADER_START..]);
         resized(bytes, self.length, random)
@@ -120,22 +140,21 @@ fn resized(mut bytes: Vec<u8>, length: usize, random: &mut Random) -> Vec<u8> {
 #[cfg(test)]
 mod tests {
     use super::*;
-    use ecma130::{judge, open};
+    use ecma130::{judge, open, parity_holds};
 
     const ADDRESS: Address = Address::new(12, 59, 74);
 
     #[test]
     fn each_mixture_is_judged_as_it_was_made() {
         let mut random = Random::new(1);
-        for (why, zeros) in (0..16).flat_map(|why| [(why, false), (why, true)]) {
-            let damage = Damage::of_why(why, zeros);
-            for _ in 0..50 {
-                let mut bytes = Sector { damage, ..Sector::good(ADDRESS) }.make(&mut random);
-                open(&mut bytes).expect("its length is right");
-                let facts = judge(&bytes, ADDRESS).expect("length and address are right");
-                assert_eq!((facts.why() as u32, facts.bits() as u32), (damage.why(), damage.bits()), "{damage:?}");
-                assert_eq!((facts.why() as u16, facts.is_good()), (why, !damage.is_judged()));
-            }
+        for why in (0..16).cycle().take(16 * 100) {
+            let damage = Damage::of_why(why).with_unjudged(2, &mut random);
+            let mut bytes = Sector { damage, ..Sector::good(ADDRESS) }.make(&mut random);
+            open(&mut bytes).expect("its length is right");
+            let facts = judge(&bytes, ADDRESS).expect("length and address are right");
+            assert_eq!((facts.why() as u32, facts.bits() as u32), (damage.why(), damage.bits()), "{damage:?}");
+            assert_eq!((facts.why() as u16, facts.is_good()), (why, !damage.is_judged()));
+            assert_eq!(parity_holds(&bytes, false), Ok(!damage.parity), "{damage:?}");
         }
     }
 

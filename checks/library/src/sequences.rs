@@ -13,7 +13,7 @@ const WRONG_ADDRESSES: [Address; 4] =
 const LAST_BUT_ONE: Address = Address::new(99, 59, 73);
 
 /// Parts of a sector whose words tell blocks apart.
-const TELLING_OFFSETS: [u16; 8] = [0, 10, 11, 12, 14, 2062, 2064, 2066];
+const TELLING_OFFSETS: [u16; 11] = [0, 10, 11, 12, 14, 2062, 2064, 2066, 2075, 2247, 2344];
 
 /// By what the chip is doing.
 impl Chooser {

@@ -1,7 +1,7 @@
 //! The model in the library's place: the comparison can be tried by it, whatever the archive does.
 
 use crate::call::{Answer, Call};
-use crate::expectation::judged;
+use crate::expectation::{judged, parity_checked, sealed};
 use crate::library::{Lent, Library};
 use crate::record::{self, Record};
 use crate::state::{refused_opening, State};
@@ -31,5 +31,13 @@ impl Library for StandIn {
 
     fn judge(&mut self, sector: &mut [u8], expected: Address) -> Answer {
         judged(sector, expected)
+    }
+
+    fn seal(&mut self, sector: &mut [u8], address: Address) -> Answer {
+        sealed(sector, address)
+    }
+
+    fn parity(&mut self, sector: &mut [u8]) -> Answer {
+        parity_checked(sector)
     }
 }

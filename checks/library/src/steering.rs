@@ -3,13 +3,10 @@
 
 use crate::call::Call;
 use crate::memory::Memory;
-use crate::sectors::{Damage, Sector, CUT_TO_FIT};
-use ecma130::{Address, SECTOR_BYTES};
+use crate::sectors::{Damage, Sector, WRONG_LENGTHS};
+use ecma130::Address;
 use model::{Chip, Random, BLOCK_BYTES};
 use std::collections::VecDeque;
-
-/// Sectors of wrong lengths.
-const LENGTHS: [usize; 9] = [0, 1, 2340, SECTOR_BYTES - 1, SECTOR_BYTES + 1, 2448, BLOCK_BYTES, 4704, CUT_TO_FIT];
 
 /// The least, the largest and the bench's largest ring, each with the one beside it.
 const RINGS: [u16; 6] = [3, 255, 25, 4, 254, 26];
@@ -147,7 +144,7 @@ impl Chooser {
     }
 
     pub(crate) fn good_sector(&mut self, chip: &Chip) -> Call {
-        self.damaged(chip, |random| Damage { zeros: random.one_in(8), ..Damage::default() })
+        self.damaged(chip, Damage::unjudged)
     }
 
     fn damaged(&mut self, chip: &Chip, damage: impl Fn(&mut Random) -> Damage) -> Call {
@@ -156,7 +153,7 @@ impl Chooser {
     }
 
     fn short_or_long_sector(&mut self, chip: &Chip) -> Call {
-        let sector = Sector { length: self.random.pick(&LENGTHS), ..Sector::good(chip.expected) };
+        let sector = Sector { length: self.random.pick(&WRONG_LENGTHS), ..Sector::good(chip.expected) };
         Call::Sector { lent: ring_bytes(chip), sector }
     }
 

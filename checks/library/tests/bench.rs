@@ -256,8 +256,10 @@ fn a_scratch_line_changes_no_byte() {
 fn the_buffer_and_the_block_hold_the_sector_as_it_arrived() {
     let mut sector = [vec![0; 16], vec![7; 2048], vec![0; 288]].concat();
     cdrom::seal(&mut sector, cdrom::Address { minute: 0, second: 2, frame: 0 }).expect("a sector");
-    let runs = [0..1, 0..12, 11..13, 12..15, 15..16, 16..2064, 2063..2065, 2064..2068, 2068..2352, 0..2352, 2352..2352];
-    for run in runs {
+    let header = [0..1, 0..12, 11..13, 12..15, 15..16];
+    let data_and_code = [16..2064, 2063..2065, 2064..2068, 2067..2077];
+    let parity = [2068..2352, 2076..2248, 2247..2249, 2248..2352, 2351..2352, 0..2352, 2352..2352];
+    for run in header.into_iter().chain(data_and_code).chain(parity) {
         let scratch = format!("call=scratch from={} count={}\n", run.start, run.len());
         let text = [OPEN, SWITCHES, scratch.as_bytes(), SECTOR].concat();
         let (end, _) = hold(&Lent::stale(14, &text), &text);

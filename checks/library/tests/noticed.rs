@@ -142,20 +142,44 @@ fn any_byte_of_the_ring() {
     }
 }
 
-/// Right but in the calls that have no reply number, and in judging.
+/// Right but in the calls that have no reply number, and in those that need no chip.
 struct Partly {
     irq: fn(u32) -> u32,
     why: fn(u32) -> u32,
     judge: fn(u32) -> u32,
-    /// Judging changes this byte of the sector that it is lent.
-    touched: Option<usize>,
+    parity: fn(u32) -> u32,
+    /// Judging, checking and sealing change these bytes of the sector that they are lent.
+    touched_by_judge: Option<usize>,
+    touched_by_parity: Option<usize>,
+    touched_by_seal: Option<usize>,
 }
 
 fn as_it_is(number: u32) -> u32 {
     number
 }
 
-const RIGHT: Partly = Partly { irq: as_it_is, why: as_it_is, judge: as_it_is, touched: None };
+const RIGHT: Partly = Partly {
+    irq: as_it_is,
+    why: as_it_is,
+    judge: as_it_is,
+    parity: as_it_is,
+    touched_by_judge: None,
+    touched_by_parity: None,
+    touched_by_seal: None,
+};
+
+fn touch(sector: &mut [u8], place: Option<usize>) {
+    if let Some(byte) = place.and_then(|place| sector.get_mut(place)) {
+        *byte ^= 1;
+    }
+}
+
+fn with_result(answer: Answer, change: fn(u32) -> u32) -> Answer {
+    match answer {
+        Answer::Reply { number: 0, result } => Answer::Reply { number: 0, result: change(result) },
+        refused => refused,
+    }
+}
 
 impl Library for Partly {
     fn call(&mut self, record: &mut Record, call: &Call, lent: Lent) -> Answer {
@@ -172,13 +196,20 @@ impl Library for Partly {
 
     fn judge(&mut self, sector: &mut [u8], expected: Address) -> Answer {
         let answer = StandIn.judge(sector, expected);
-        if let Some(byte) = self.touched.and_then(|place| sector.get_mut(place)) {
-            *byte ^= 1;
-        }
-        match answer {
-            Answer::Reply { number: 0, result } => Answer::Reply { number: 0, result: (self.judge)(result) },
-            refused => refused,
-        }
+        touch(sector, self.touched_by_judge);
+        with_result(answer, self.judge)
+    }
+
+    fn seal(&mut self, sector: &mut [u8], address: Address) -> Answer {
+        let answer = StandIn.seal(sector, address);
+        touch(sector, self.touched_by_seal);
+        answer
+    }
+
+    fn parity(&mut self, sector: &mut [u8]) -> Answer {
+        let answer = StandIn.parity(sector);
+        touch(sector, self.touched_by_parity);
+        with_result(answer, self.parity)
     }
 }
 
@@ -218,9 +249,25 @@ fn swapped(why: u32) -> u32 {
 }
 
 #[test]
-fn a_judged_sector_is_changed() {
+fn another_answer_of_the_parity_check() {
+    let wrong: [fn(u32) -> u32; 4] = [|_| 0, |_| 1, |holds| holds ^ 1, |holds| holds << 8];
+    for change in wrong {
+        is_told_as("the parity check", Partly { parity: change, ..RIGHT });
+    }
+}
+
+#[test]
+fn a_sector_that_is_only_read_is_changed() {
     for place in [0, 15, 2064, 2351] {
-        is_told_as(&format!("the judged sector, byte {place}"), Partly { touched: Some(place), ..RIGHT });
+        is_told_as(&format!("the judged sector, byte {place}"), Partly { touched_by_judge: Some(place), ..RIGHT });
+        is_told_as(&format!("the checked sector, byte {place}"), Partly { touched_by_parity: Some(place), ..RIGHT });
+    }
+}
+
+#[test]
+fn another_byte_of_a_sealed_sector() {
+    for place in [0, 11, 12, 15, 16, 2063, 2064, 2067, 2068, 2075, 2076, 2247, 2248, 2351] {
+        is_told_as(&format!("the sealed sector, byte {place}"), Partly { touched_by_seal: Some(place), ..RIGHT });
     }
 }
 

@@ -1,15 +1,18 @@
-//! Sealing, opening and judging, valid and damaged, against the independent code.
+//! Sealing, opening and judging, valid and damaged, against the independent code. All of a buffer is random bytes
+//! before it is sealed.
 
 mod common;
 
 use cdrom::{raw, Facts, Refusal};
-use common::{judge, open, seal, valid_address, GOOD};
-use ecma130::{edc_bitwise, Address, EDC_START, SECTOR_BYTES, USER_BYTES, USER_START};
+use common::{judge, open, parity, seal, valid_address, GOOD};
+use ecma130::edc_bitwise;
+use ecma130::{Address, EDC_START, P_PARITY_START, Q_PARITY_START, SECTOR_BYTES, USER_BYTES, USER_START};
 use model::Random;
 
 const ZEROS_START: usize = EDC_START + 4;
-/// Where a field begins: sync, address, mode, user bytes, code, zeros, parity; and the last byte.
-const FIELD_EDGES: [usize; 8] = [0, 12, 15, USER_START, EDC_START, ZEROS_START, 2076, SECTOR_BYTES - 1];
+/// Where a field begins: sync, address, mode, user bytes, code, zeros, P parity, Q parity; and the last byte.
+const FIELD_EDGES: [usize; 9] =
+    [0, 12, 15, USER_START, EDC_START, ZEROS_START, P_PARITY_START, Q_PARITY_START, SECTOR_BYTES - 1];
 const ADDRESS: Address = Address::new(12, 34, 56);
 
 fn good_sector(random: &mut Random) -> Vec<u8> {
@@ -43,6 +46,7 @@ fn sealed_and_opened_gives_user_bytes_and_address_back() {
         assert_eq!(sector[USER_START..][..USER_BYTES], user);
         assert_eq!(sector[12..15], address.bcd());
         assert_eq!(judge(&sector, address), Ok(GOOD));
+        assert_eq!(parity(&sector), Ok(true));
         let other = valid_address(&mut random);
         assert_eq!(judge(&sector, other), Ok(Facts { address: other != address, ..GOOD }));
     }
@@ -141,6 +145,7 @@ fn wrong_lengths_are_refused_before_bad_addresses() {
             assert_eq!(seal(&mut sector, address), Err(Refusal::WrongLength), "length {length}");
             assert_eq!(open(&mut sector), Err(Refusal::WrongLength), "length {length}");
             assert_eq!(judge(&sector, address), Err(Refusal::WrongLength), "length {length}");
+            assert_eq!(parity(&sector), Err(Refusal::WrongLength), "length {length}");
             assert_eq!(sector, before, "length {length}");
         }
     }

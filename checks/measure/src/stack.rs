@@ -39,6 +39,7 @@ fn sector_calls() -> Vec<(&'static str, usize)> {
         ("cdrom_seal", of_sector_call(raw::cdrom_seal as Function)),
         ("cdrom_open", of_sector_call(raw::cdrom_open as Function)),
         ("cdrom_judge", of_sector_call(raw::cdrom_judge as Function)),
+        ("cdrom_parity", of_sector_call(raw::cdrom_parity as Function)),
         ("cdrom_edc", of_sector_call(raw::cdrom_edc as Function)),
     ]
 }
@@ -196,7 +197,7 @@ mod tests {
                 "cdrom_bench" => 5 * 1024,
                 "cdrom_chip_sector" => 4 * 1024,
                 "cdrom_seal" | "cdrom_open" => 3 * 1024,
-                "cdrom_judge" | "cdrom_edc" => 1024,
+                "cdrom_judge" | "cdrom_parity" | "cdrom_edc" => 1024,
                 _ => 2 * 1024,
             };
             assert!(bytes < limit, "{name} takes {bytes} bytes of stack");

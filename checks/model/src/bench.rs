@@ -117,8 +117,7 @@ pub fn run_on(chip: &mut Chip, ring: &mut [u8], call: Call) -> Answer {
     }
 }
 
-/// A sector with every user byte equal to `fill`, and parity 0 before it is
-/// scrambled.
+/// A sector with every user byte equal to `fill`.
 pub fn sealed(address: Address, fill: u16) -> Result<Vec<u8>, Refusal> {
     let fill = u8::try_from(fill).map_err(|_| Refusal::OutOfRange)?;
     let mut sector = vec![0; SECTOR_BYTES];

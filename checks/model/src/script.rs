@@ -22,8 +22,13 @@ const READABLE: [u16; 19] =
 /// Each just past the end of one range.
 const WRONG_ADDRESSES: [Address; 3] = [Address::new(100, 0, 0), Address::new(0, 60, 0), Address::new(0, 0, 75)];
 
+const LAST_ADDRESS: Address = Address::new(99, 59, 74);
+
 /// Parts of a sector whose words tell blocks apart.
-const TELLING_OFFSETS: [u16; 8] = [0, 10, 11, 12, 14, 2062, 2064, 2066];
+const TELLING_OFFSETS: [u16; 11] = [0, 10, 11, 12, 14, 2062, 2064, 2066, 2075, 2247, 2344];
+
+/// A window of all parity bytes: the offset and the words.
+const WHOLE_PARITY: (u16, u16) = (2076, 138);
 
 const MALFORMED_SCRATCHES: [&[u8]; 5] = [
     b"call=scratch from=12",
@@ -79,7 +84,9 @@ impl Writer {
         if is_whole_block(chip) && !self.random.one_in(200) {
             return Call::Word;
         }
-        if self.random.one_in(25) {
+        // A long plan is to reach its end now and then.
+        let steadiness = if self.plan.len() > 12 { 200 } else { 25 };
+        if self.random.one_in(steadiness) {
             return self.blind_call(chip);
         }
         if let Some(call) = self.plan.pop_front() {
@@ -165,12 +172,12 @@ impl Writer {
     }
 
     fn rare_call(&mut self) -> Call {
-        match self.random.below(15) {
+        match self.random.below(16) {
             0..=1 => self.reset(),
             2 => Call::Word,
             3 => self.drop_count(),
-            4..=7 => self.long_start(),
-            8..=9 => self.start_by_packet(),
+            4..=8 => self.long_start(),
+            9..=10 => self.start_by_packet(),
             _ => {
                 let opening = self.opening();
                 self.survey(opening)
@@ -352,7 +359,7 @@ impl Writer {
     /// leaves in MBC and the byte count. ATLIM cuts nothing but where it is 16.
     fn long_start(&mut self) -> Call {
         let ring = self.random.pick(&[25, 25, 25, 22, 18]);
-        let good = if self.random.one_in(3) { self.random.between(17, ring - 1) } else { ring - 1 };
+        let good = if self.random.one_in(5) { self.random.between(17, ring - 1) } else { ring - 1 };
         let switches = self.random.pick(&[0x60, 0x60, 0xE0]) | self.random.pick(&[0, 0, 0, 16, 16, 31]);
         let words = self.random.pick(&[1, 2, 1024, 1100, 1176]);
         let window = Call::Window { offset: 0, words };
@@ -363,7 +370,7 @@ impl Writer {
             self.plan.push_back(Call::Sector { address, fill });
             address = address.next();
         }
-        let blocks = self.random.pick(&[17, good, 255]);
+        let blocks = self.random.pick(&[17, good, good, 255, 255]);
         self.plan.extend([Call::Command { code: 0x28 }, write(0x9F, blocks), write(0x17, 0x04)]);
         self.plan.extend([0x12, 0x35, 0x34].map(|reg| Call::Read { reg }));
         if words > 2 {
@@ -410,7 +417,7 @@ impl Writer {
 
     fn show_oldest_block(&mut self) -> Call {
         self.plan.extend([write(0x9C, 0x60), write(0x18, 0x40), write(0x12, 0)]);
-        if self.random.one_in(16) {
+        if self.random.one_in(8) {
             self.serve_whole_block();
         } else {
             self.sweep();
@@ -418,8 +425,9 @@ impl Writer {
         Call::Srst
     }
 
+    /// All of it, its user bytes, or its parity.
     fn serve_whole_block(&mut self) {
-        let (offset, words) = self.random.pick(&[(0, 1176), (16, 1024)]);
+        let (offset, words) = self.random.pick(&[(0, 1176), (16, 1024), WHOLE_PARITY, WHOLE_PARITY]);
         let command = Call::Command { code: 0x28 };
         self.plan.extend([Call::Window { offset, words }, command, write(0x17, 0x04)]);
     }
@@ -470,8 +478,10 @@ impl Writer {
         }
     }
 
+    /// Often to the disc's last address.
     fn move_on_disc(&mut self) -> Call {
-        let address = if self.random.one_in(5) { self.random.pick(&WRONG_ADDRESSES) } else { self.any_address() };
+        let (wrong, any) = (self.random.pick(&WRONG_ADDRESSES), self.any_address());
+        let address = self.random.pick(&[wrong, any, any, any, LAST_ADDRESS]);
         self.then(write(0x0A, 0x00), &[Call::Address { address }, write(0x0A, 0x80)])
     }
 
@@ -581,7 +591,7 @@ impl Writer {
 /// A last block of this length would hardly be read to its end if other
 /// calls came between its words as often as elsewhere.
 fn is_whole_block(chip: &Chip) -> bool {
-    chip.window.words >= 1024 && chip.transfer.is_some_and(|transfer| transfer.blocks_left == 1)
+    chip.window.words >= WHOLE_PARITY.1 as usize && chip.transfer.is_some_and(|transfer| transfer.blocks_left == 1)
 }
 
 /// Fills a line up to `length` bytes by zeros before its last number.

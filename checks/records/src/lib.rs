@@ -26,12 +26,22 @@ impl Record {
         self.kind == 1
     }
 
-    /// A buffer to seal: the record's user and parity bytes. Sealing must
-    /// write every other byte, so those are spoiled.
+    /// Mode 2 form 1: the parity is that of a header of zeros.
+    pub fn is_form_1(&self) -> bool {
+        self.kind == 2
+    }
+
+    /// The byte that all user bytes are, where the record is one that a sector line of the bench can make.
+    pub fn fill(&self) -> Option<u8> {
+        let fill = self.user[0];
+        (self.is_mode_1() && self.user.iter().all(|&byte| byte == fill)).then_some(fill)
+    }
+
+    /// A buffer to seal: the record's user bytes. Sealing must write every
+    /// other byte, so those are spoiled.
     pub fn unsealed(&self) -> Vec<u8> {
-        let mut buffer = vec![0xEE; 2352];
+        let mut buffer: Vec<u8> = self.clear.iter().map(|byte| !byte).collect();
         buffer[16..2064].copy_from_slice(&self.user);
-        buffer[2076..].copy_from_slice(&self.clear[2076..]);
         buffer
     }
 }

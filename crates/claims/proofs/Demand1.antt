@@ -16,7 +16,7 @@ use Rattle.calls.specs.declared.Call.the-variants.{Write, Read, SetBlock, SetWi
 use Rattle.reply.specs.Reply.{refusal, answer}
 use Rattle.reply.specs.declared.Reply.{Reply}
 use Rattle.sector.specs.Address.{valid}
-use Rattle.sector.specs.Calls.{whole, seal-reply, seal-sector, open-reply, open-sector, refused as unjudged, judge-answer}
+use Rattle.sector.specs.Calls.{whole, seal-reply, seal-sector, open-reply, open-sector, refused as unjudged, judge-answer, parity-reply}
 use Rattle.sector.specs.Judge.{good, judgement}
 use Rattle.sector.specs.Sector.{sealed}
 use Rattle.sector.specs.declared.Address.{Address}
@@ -616,6 +616,18 @@ module _ (s : List ℕ) where
       by false t = record { lowest = numbered ((true, 1) ∷ []) refl .lowest; refusal = λ _. (refl, refl) }
       by true t = record { lowest = numbered ((false, 1) ∷ []) refl .lowest; refusal = λ some. absurd (some refl) }
 
+  record Checks (f : Bool) (r : Reply) : Type 0 where
+    lowest : Lowest ((not f, 1) ∷ []) (r .number)
+    refusal : (r .number ≡ 0 → ⊥) → r .result ≡ 0
+
+  checks : Checks (whole s) (parity-reply s)
+  unfolding parity-reply
+  checks = by (whole s) _
+    where
+      by : (f : Bool) (x : ℕ) → Checks f (if f then answer x else refusal 1)
+      by false x = record { lowest = numbered ((true, 1) ∷ []) refl .lowest; refusal = λ _. refl }
+      by true x = record { lowest = numbered ((false, 1) ∷ []) refl .lowest; refusal = λ some. absurd (some refl) }
+
 pub demand1 : Demand1
 demand1 = record {
   tested = λ c rs o s z. guards c rs o s z .lowest;
@@ -631,4 +643,6 @@ demand1 = record {
   unchanged = λ s. opens s .refusal;
   judging = λ s a. subst (Lowest (sealing-reasons s a)) (sym (judges s a .number-is)) (alone s a (whole s) (valid a) .lowest);
   no-fact = λ s a. judges s a .refusal;
+  checking = λ s. checks s .lowest;
+  unchecked = λ s. checks s .refusal;
 }

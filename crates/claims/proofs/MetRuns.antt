@@ -6,7 +6,8 @@ use mathlib.Core.List.{List, [], _∷_, _++_}
 use native.Mathlib.Omega.{arith}
 use lib.ListN.{length}
 use Rattle.sector.specs.Address.{next}
-use Rattle.sector.specs.Sector.{body, framed}
+use Rattle.parity.specs.Parity.{with-parity}
+use Rattle.sector.specs.Sector.{body, framed, encoded}
 use Rattle.sector.specs.declared.Address.{Address}
 use Rattle.sector.proofs.Sealed.{judged-other}
 use Rattle.controller.specs.Calls.{stepped}
@@ -29,15 +30,15 @@ module _ (u : List ℕ) (size : length u ≡ 2352) where
 
   -- a bad sector, one that is refused, a restart, and the good one
   restarted :
-      Ran the-row (disc u 5 ∷ disc u 1 ∷ restart ++ disc u 1 ∷ []) (filled 1 (framed (frame 0) u ∷ []))
-      (replied 0 1 ∷ replied 8 0 ∷ ok ∷ ok ∷ ok ∷ []) (filled 2 (framed (frame 0) u ∷ framed (frame 1) u ∷ []))
+      Ran the-row (disc u 5 ∷ disc u 1 ∷ restart ++ disc u 1 ∷ []) (filled 1 (encoded (frame 0) u ∷ []))
+      (replied 0 1 ∷ replied 8 0 ∷ ok ∷ ok ∷ ok ∷ []) (filled 2 (encoded (frame 0) u ∷ encoded (frame 1) u ∷ []))
   unfolding row-answer row-step stepped concluded settled admission counted next registers.write registers.write-ctrl0
   restarted =
-      decoded u size 5 (filled 1 (framed (frame 0) u ∷ [])) _ (judged-other (frame 5) u size (frame 1) refl refl other-frame)
+      decoded u size 5 (filled 1 (encoded (frame 0) u ∷ [])) _ (judged-other (frame 5) u size (frame 1) refl refl other-frame)
       then decoded u size 1 _ _ (own u size 1) then calls restart _ then decoded u size 1 _ _ (own u size 1)
 
   pub row-met : Met the-row u
-  unfolding row-answer row-step stepped concluded settled admission counted next byte-count start reading.read registers.write registers.write-bicctl registers.write-acctl registers.write-ctrl0 registers.write-asctrl registers.write-astrg set-window host-word host-command ended data-ended framed body
+  unfolding row-answer row-step stepped concluded settled admission counted next byte-count start reading.read registers.write registers.write-bicctl registers.write-acctl registers.write-ctrl0 registers.write-asctrl registers.write-astrg set-window host-word host-command ended data-ended encoded with-parity framed body
   row-met =
       record {
         words-handed = by-row (first u size then calls (transfer 12 2 ++ word ∷ word ∷ []) _);

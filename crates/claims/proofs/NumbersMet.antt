@@ -7,7 +7,8 @@ use native.Mathlib.Omega.{arith}
 use lib.ListN.{length}
 use Rattle.calls.specs.declared.Call.the-variants.{PacketByte}
 use Rattle.sector.specs.Address.{next}
-use Rattle.sector.specs.Sector.{body, framed}
+use Rattle.parity.specs.Parity.{with-parity}
+use Rattle.sector.specs.Sector.{body, framed, encoded}
 use Rattle.sector.specs.declared.Address.{Address}
 use Rattle.sector.proofs.Sealed.{judged-other}
 use Rattle.controller.specs.Calls.{stepped}
@@ -38,16 +39,16 @@ module _ (u : List ℕ) (size : length u ≡ 2352) where
 
   -- a bad sector, the counts, one that is refused, a restart, the good one, and one at the stop
   held :
-      Ran the-row (disc u 5 ∷ read 0x9B ∷ read 0x9D ∷ disc u 1 ∷ restart ++ disc u 1 ∷ disc u 2 ∷ []) (filled 1 (framed (frame 0) u ∷ []))
-      (replied 0 1 ∷ replied 0 2 ∷ replied 0 1 ∷ replied 8 0 ∷ ok ∷ ok ∷ ok ∷ replied 9 0 ∷ []) (filled 2 (framed (frame 0) u ∷ framed (frame 1) u ∷ []))
+      Ran the-row (disc u 5 ∷ read 0x9B ∷ read 0x9D ∷ disc u 1 ∷ restart ++ disc u 1 ∷ disc u 2 ∷ []) (filled 1 (encoded (frame 0) u ∷ []))
+      (replied 0 1 ∷ replied 0 2 ∷ replied 0 1 ∷ replied 8 0 ∷ ok ∷ ok ∷ ok ∷ replied 9 0 ∷ []) (filled 2 (encoded (frame 0) u ∷ encoded (frame 1) u ∷ []))
   unfolding row-answer row-step stepped concluded settled admission counted next reading.read registers.write registers.write-ctrl0
   held =
-      decoded u size 5 (filled 1 (framed (frame 0) u ∷ [])) _ (judged-other (frame 5) u size (frame 1) refl refl other-frame)
+      decoded u size 5 (filled 1 (encoded (frame 0) u ∷ [])) _ (judged-other (frame 5) u size (frame 1) refl refl other-frame)
       then calls (read 0x9B ∷ read 0x9D ∷ []) _ then decoded u size 1 _ _ (own u size 1) then calls restart _ then decoded u size 1 _ _ (own u size 1)
       then decoded u size 2 _ _ (own u size 2)
 
   row-numbers : NumbersMet the-row u
-  unfolding row-answer row-step stepped concluded settled set-window framed body
+  unfolding row-answer row-step stepped concluded settled set-window encoded with-parity framed body
   row-numbers =
       record {
         one-to-seven = refusing;

@@ -11,7 +11,8 @@ use borrow.Author.Tests.{ne-eqb, lt-ltb}
 use Rattle.laws.proofs.Bytes.{bytes-replicate}
 use Rattle.sector.specs.Address.{next}
 use Rattle.sector.specs.Judge.{no-facts}
-use Rattle.sector.specs.Sector.{body, framed}
+use Rattle.parity.specs.Parity.{with-parity}
+use Rattle.sector.specs.Sector.{body, framed, encoded}
 use Rattle.controller.specs.Calls.{stepped}
 use Rattle.controller.specs.Decoder.{admission, counted}
 use Rattle.controller.specs.Fields.{_▹_, acctl≔, window≔, adcen≔, stwcen≔, bsy≔, ttc≔}
@@ -42,22 +43,22 @@ module _ (u : List ℕ) (size : length u ≡ 2352) where
 
   frames : ℕ → List (List ℕ)
   frames zero = []
-  frames (suc k) = frames k ++ framed (frame k) u ∷ []
+  frames (suc k) = frames k ++ encoded (frame k) u ∷ []
 
   oks : ℕ → List Answer
   oks zero = []
   oks (suc k) = oks k ++ ok ∷ []
 
   one-more : (n k : ℕ) (row : List (List ℕ)) → k + 1 < n → k < 74
-      → Ran the-row (disc u k ∷ []) (holding n k row) (ok ∷ []) (holding n (suc k) (row ++ framed (frame k) u ∷ []))
+      → Ran the-row (disc u k ∷ []) (holding n k row) (ok ∷ []) (holding n (suc k) (row ++ encoded (frame k) u ∷ []))
   unfolding concluded settled admission counted next
   one-more n k row room low =
       let d = decoded u size k (holding n k row) no-facts (own u size k) in
       let below : ltb k 74 ≡ true = lt-ltb k 74 low in
       let free : eqb (k + 1) n ≡ false = ne-eqb (k + 1) n (λ (e : k + 1 ≡ n). omega arith) in
-      let more : Ran the-row (disc u k ∷ []) (holding n k row) (ok ∷ []) (holding n (k + 1) (row ++ framed (frame k) u ∷ [])) =
+      let more : Ran the-row (disc u k ∷ []) (holding n k row) (ok ∷ []) (holding n (k + 1) (row ++ encoded (frame k) u ∷ [])) =
       record { told = d .told ∙ simp free; left = d .left ∙ simp (free, below) } in
-      record { told = more .told; left = more .left ∙ ap (λ (m : ℕ). holding n m (row ++ framed (frame k) u ∷ [])) (add-one k) }
+      record { told = more .told; left = more .left ∙ ap (λ (m : ℕ). holding n m (row ++ encoded (frame k) u ∷ [])) (add-one k) }
 
   many : (n k : ℕ) → k < n → k ≤ 74 → Ran the-row (discs k) (holding n 0 []) (oks k) (holding n k (frames k))
   unfolding discs frames oks
@@ -91,7 +92,7 @@ serve k = set-window 0 1176 ∷ write 0x18 0x48 ∷ command 0 ∷ write 0x9F k �
 
 -- of a sector of zeros the first user byte is not 1
 zeros-given : GivenCode (replicate 2352 0) 16 1
-unfolding framed body
+unfolding encoded with-parity framed body
 zeros-given =
     record {
       size = length-replicate {A = ℕ} 2352 0;

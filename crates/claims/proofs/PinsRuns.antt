@@ -14,11 +14,12 @@ use Rattle.sector.specs.Calls.{judge-answer}
 use Rattle.sector.specs.Claims.{verdict, address-alone, facts-of-change}
 use Rattle.sector.specs.Judge.{judgement, no-facts}
 use Rattle.sector.specs.Receive.{received}
-use Rattle.sector.specs.Sector.{body, framed}
+use Rattle.parity.specs.Parity.{with-parity}
+use Rattle.sector.specs.Sector.{body, framed, encoded}
 use Rattle.sector.specs.declared.Judgement.{Judgement}
 use Rattle.sector.proofs.Answers.{judge-done, judged-facts}
 use Rattle.sector.proofs.Claims.{damage-holds}
-use Rattle.sector.proofs.Frames.{length-framed, bytes-framed}
+use Rattle.sector.proofs.Frames.{length-encoded, bytes-encoded}
 use Rattle.sector.proofs.Sealed.{judged-own}
 use Rattle.calls.specs.declared.Call.the-variants.{Reset}
 use Rattle.controller.specs.Calls.{stepped}
@@ -38,14 +39,14 @@ use Rattle.claims.proofs.Runs.{frame, Ran, calls, _then_, telling, open
 -- the sector sealed at 00:02:01, with a byte behind its header changed, is received as such, and its EDC alone fails
 module _ (u : List ℕ) (k v : ℕ) (h : GivenCode u k v) where
   abbrev changed : List ℕ
-  changed = set (framed (frame 1) u) k v
+  changed = set (encoded (frame 1) u) k v
 
   whole : length changed ≡ 2352
-  whole = length-set (framed (frame 1) u) k v ∙ length-framed (frame 1) u (h .size)
+  whole = length-set (encoded (frame 1) u) k v ∙ length-encoded (frame 1) u (h .size)
 
-  sealed-well : judge-answer (framed (frame 1) u) (frame 1) ≡ verdict no-facts
+  sealed-well : judge-answer (encoded (frame 1) u) (frame 1) ≡ verdict no-facts
   sealed-well =
-      sym (judge-done (framed (frame 1) u) (frame 1) (length-framed (frame 1) u (h .size)) refl)
+      sym (judge-done (encoded (frame 1) u) (frame 1) (length-encoded (frame 1) u (h .size)) refl)
       ∙ ap (λ (j : Judgement). record { number = 0; judgement = j }) (judged-own (frame 1) u (h .size))
 
   -- no other fact is of its place
@@ -59,7 +60,7 @@ module _ (u : List ℕ) (k v : ℕ) (h : GivenCode u k v) where
   received-so =
       ap (λ (l : List ℕ). record { bytes = l; judgement = judgement (frame 1) l }) (scrambled-twice changed whole)
       ∙ ap (λ (j : Judgement). record { bytes = changed; judgement = j })
-      (judged-facts changed (frame 1) (facts-of-change k) (damage-holds (framed (frame 1) u) (frame 1) k v (bytes-framed (frame 1) u refl (h .bytes)) sealed-well (h .byte) (h .other)) ∙ edc-alone)
+      (judged-facts changed (frame 1) (facts-of-change k) (damage-holds (encoded (frame 1) u) (frame 1) k v (bytes-encoded (frame 1) u (h .size) refl (h .bytes)) sealed-well (h .byte) (h .other)) ∙ edc-alone)
 
   pub wrong-code :
       Gives the-row 3
@@ -68,7 +69,7 @@ module _ (u : List ℕ) (k v : ℕ) (h : GivenCode u k v) where
   unfolding row-answer row-step stepped concluded settled admission counted next reading.read
   wrong-code =
       by-row (first u (h .size)
-      then taken (scrambled changed) changed (filled 1 (framed (frame 0) u ∷ [])) _ (length-scrambled changed whole) received-so
+      then taken (scrambled changed) changed (filled 1 (encoded (frame 0) u ∷ [])) _ (length-scrambled changed whole) received-so
       then calls (read 0x80 ∷ read 0x9D ∷ read 0x9B ∷ []) _
       then decoded u (h .size) 1 _ _ (own u (h .size) 1))
 
@@ -80,13 +81,13 @@ module _ (u : List ℕ) (k v : ℕ) (h : GivenCode u k v) where
   restarted = record { controller = decoding 0 ▹ judgement≔ address-alone; blocks = 3; row = [] }
 
   abbrev one-good : Row
-  one-good = filled 1 (framed (frame 0) u ∷ [])
+  one-good = filled 1 (encoded (frame 0) u ∷ [])
 
   abbrev one-bad : Row
   one-bad = record {
     controller = decoding 1 ▹ bufc≔ 2 ▹ judgement≔ (record { sync = false; mode = false; edc = true; address = false }) ▹ held≔ true;
     blocks = 3;
-    row = framed (frame 0) u ∷ [];
+    row = encoded (frame 0) u ∷ [];
   }
 
   bad : Ran the-row (disc u 5 ∷ []) (filled 0 []) (replied 0 1 ∷ []) misplaced
@@ -129,7 +130,7 @@ pub look-headers : (u : List ℕ) → length u ≡ 2352
     (set-up ++ disc u 0 ∷ disc u 1 ∷ set-window 12 2 ∷ look ∷ set-window 13 1 ∷ look ∷ transfer 14 1 ++ word ∷ look ∷ [])
     (ok ∷ ok ∷ ok ∷ ok ∷ ok ∷ ok ∷ seen (0x00 ∷ 0x02 ∷ 0x00 ∷ 0x01 ∷ []) ∷ ok ∷ seen (0x02 ∷ 0x00 ∷ []) ∷ ok ∷ ok ∷ ok ∷ ok
     ∷ handed 0x0100 ∷ seen (0x01 ∷ 0x01 ∷ []) ∷ [])
-unfolding row-answer row-step stepped concluded settled byte-count start registers.write registers.write-asctrl registers.write-astrg named.set-window host-word host-command ended data-ended framed body
+unfolding row-answer row-step stepped concluded settled byte-count start registers.write registers.write-asctrl registers.write-astrg named.set-window host-word host-command ended data-ended encoded with-parity framed body
 look-headers u size =
     by-row (first u size then second u size
     then calls (set-window 12 2 ∷ look ∷ set-window 13 1 ∷ look ∷ transfer 14 1 ++ word ∷ look ∷ []) _)

@@ -13,7 +13,7 @@ use Rattle.laws.proofs.Choice.{left-true, right-true}
 use Rattle.sector.specs.Claims.{address-alone}
 use Rattle.sector.specs.Judge.{good, judgement, no-facts, why}
 use Rattle.sector.specs.Receive.{received}
-use Rattle.sector.specs.Sector.{framed, sealed}
+use Rattle.sector.specs.Sector.{encoded, sealed}
 use Rattle.sector.specs.declared.Address.{Address}
 use Rattle.sector.specs.declared.Judgement.{Judgement}
 use Rattle.sector.specs.Address.{next}
@@ -100,11 +100,11 @@ module _ (x bytes : List ℕ) (s : Row) (j : Judgement) (size : length x ≡ 235
   taken = let fits = eq-eqb (length x) 2352 size in record { told = simp (fits, e); left = simp (fits, e) }
 
 -- a sealed sector
-module _ (u : List ℕ) (size : length u ≡ 2352) (f : ℕ) (s : Row) (j : Judgement) (e : judgement (s .controller .expected) (framed (frame f) u) ≡ j) where
-  pub decoded : Ran the-row (disc u f ∷ []) s (taken-answer j s ∷ []) (taken-row j (framed (frame f) u) s)
+module _ (u : List ℕ) (size : length u ≡ 2352) (f : ℕ) (s : Row) (j : Judgement) (e : judgement (s .controller .expected) (encoded (frame f) u) ≡ j) where
+  pub decoded : Ran the-row (disc u f ∷ []) s (taken-answer j s ∷ []) (taken-row j (encoded (frame f) u) s)
   decoded =
-      taken (sealed (frame f) u) (framed (frame f) u) s j (length-sealed (frame f) u size)
-      (received-sealed (s .controller .expected) (frame f) u size ∙ ap (λ (x : Judgement). record { bytes = framed (frame f) u; judgement = x }) e)
+      taken (sealed (frame f) u) (encoded (frame f) u) s j (length-sealed (frame f) u size)
+      (received-sealed (s .controller .expected) (frame f) u size ∙ ap (λ (x : Judgement). record { bytes = encoded (frame f) u; judgement = x }) e)
 
 -- Three blocks with k good sectors decoded, from frame 0 on
 
@@ -115,21 +115,21 @@ abbrev pub filled : ℕ → List (List ℕ) → Row
 filled k row = record { controller = decoding k; blocks = 3; row = row }
 
 module _ (u : List ℕ) (size : length u ≡ 2352) where
-  pub own : (f : ℕ) → judgement (frame f) (framed (frame f) u) ≡ no-facts
+  pub own : (f : ℕ) → judgement (frame f) (encoded (frame f) u) ≡ no-facts
   own f = judged-own (frame f) u size
 
   -- frame 5 where frame 0 is expected
-  pub not-expected : judgement (frame 0) (framed (frame 5) u) ≡ address-alone
+  pub not-expected : judgement (frame 0) (encoded (frame 5) u) ≡ address-alone
   not-expected =
       judged-other (frame 5) u size (frame 0) refl refl (λ e. let z : _≡_ {A = ℕ} 0 5 = ap (λ (a : Address). a .frame) e in omega arith)
 
-  pub first : Ran the-row (set-up ++ disc u 0 ∷ []) (opened 3) (ok ∷ ok ∷ ok ∷ ok ∷ []) (filled 1 (framed (frame 0) u ∷ []))
+  pub first : Ran the-row (set-up ++ disc u 0 ∷ []) (opened 3) (ok ∷ ok ∷ ok ∷ ok ∷ []) (filled 1 (encoded (frame 0) u ∷ []))
   unfolding row-answer row-step stepped concluded settled admission counted next registers.write registers.write-bicctl registers.write-acctl registers.write-ctrl0
   first = calls set-up (opened 3) then decoded u size 0 (filled 0 []) _ (own 0)
 
-  pub second : Ran the-row (disc u 1 ∷ []) (filled 1 (framed (frame 0) u ∷ [])) (ok ∷ []) (filled 2 (framed (frame 0) u ∷ framed (frame 1) u ∷ []))
+  pub second : Ran the-row (disc u 1 ∷ []) (filled 1 (encoded (frame 0) u ∷ [])) (ok ∷ []) (filled 2 (encoded (frame 0) u ∷ encoded (frame 1) u ∷ []))
   unfolding concluded settled admission counted next
-  second = decoded u size 1 (filled 1 (framed (frame 0) u ∷ [])) _ (own 1)
+  second = decoded u size 1 (filled 1 (encoded (frame 0) u ∷ [])) _ (own 1)
 
 -- machines that tell why simulate each other where they do
 abbrev pub telling-simulates : {M R : Machine} → Simulation M R → Simulation (telling-why M) (telling-why R)

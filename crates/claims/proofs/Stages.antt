@@ -8,7 +8,7 @@ use native.Mathlib.Omega.{arith}
 use lib.ListN.{length}
 use borrow.Author.Tests.{eq-eqb}
 use Rattle.sector.specs.Judge.{judgement}
-use Rattle.sector.specs.Sector.{framed, sealed}
+use Rattle.sector.specs.Sector.{encoded, sealed}
 use Rattle.sector.specs.declared.Judgement.{Judgement}
 use Rattle.sector.proofs.Received.{received-sealed}
 use Rattle.sector.proofs.Sealed.{length-sealed}
@@ -42,9 +42,9 @@ module _ (step : Call → State → State)
     M = record { State = State; opened = the-chip .opened; answer = chip-answer; step = step; facts = the-chip .facts }
 
     pub on-disc :
-        (u : List ℕ) → length u ≡ 2352 → (f : ℕ) (j : Judgement) → admission k (full p) ≡ 0 → judgement (k .expected) (framed (frame f) u) ≡ j
+        (u : List ℕ) → length u ≡ 2352 → (f : ℕ) (j : Judgement) → admission k (full p) ≡ 0 → judgement (k .expected) (encoded (frame f) u) ≡ j
         → Ran M (disc u f ∷ []) (over (chip-with k p) ring) (of-told (finished p (concluded (counted k j))) ∷ [])
-        (over (finished p (concluded (counted k j)) .chip) (stored ring (p .b) (framed (frame f) u)))
+        (over (finished p (concluded (counted k j)) .chip) (stored ring (p .b) (encoded (frame f) u)))
     unfolding chip-answer chip-step sector-number sector-told sector-ring
     on-disc u size f j admitted e =
         let whole = eq-eqb (length ring) (p .n * 2560) fits in

@@ -6,8 +6,9 @@ use mathlib.Core.List.{List, [], _∷_, _++_}
 use native.Mathlib.Omega.{arith}
 use lib.ListN.{length, replicate, length-replicate}
 use Rattle.sector.specs.Address.{next}
-use Rattle.sector.specs.Sector.{body, framed}
-use Rattle.sector.proofs.Frames.{length-framed}
+use Rattle.parity.specs.Parity.{with-parity}
+use Rattle.sector.specs.Sector.{body, framed, encoded}
+use Rattle.sector.proofs.Frames.{length-encoded}
 use Rattle.controller.specs.Calls.{stepped}
 use Rattle.controller.specs.Decoder.{admission, counted}
 use Rattle.controller.specs.Fields.{_▹_, tcc≔, bufc≔, window≔, adcen≔, bsy≔, position≔}
@@ -43,10 +44,10 @@ aborted = host-srst (moving ▹ position≔ 1) .controller ▹ tcc≔ 1 ▹ bufc
 
 module _ (x u : List ℕ) (fits : length x ≡ 3 * 2560) (size : length u ≡ 2352) where
   abbrev old : List ℕ
-  old = framed (frame 0) u
+  old = encoded (frame 0) u
 
   abbrev young : List ℕ
-  young = framed (frame 1) u
+  young = encoded (frame 1) u
 
   abbrev ring1 : List ℕ
   ring1 = stored x 0 old
@@ -55,10 +56,10 @@ module _ (x u : List ℕ) (fits : length x ≡ 3 * 2560) (size : length u ≡ 23
   ring2 = stored ring1 1 young
 
   one : Represents (at 3 0 1 0) 1 1 ring1 (old ∷ [])
-  one = one-stored x old young fits (length-framed (frame 0) u size) (length-framed (frame 1) u size)
+  one = one-stored x old young fits (length-encoded (frame 0) u size) (length-encoded (frame 1) u size)
 
   two : Represents (at 3 0 2 1) 2 2 ring2 (old ∷ young ∷ [])
-  two = two-stored x old young fits (length-framed (frame 0) u size) (length-framed (frame 1) u size)
+  two = two-stored x old young fits (length-encoded (frame 0) u size) (length-encoded (frame 1) u size)
 
   left-over : Represents (at 3 1 2 1) 1 1 ring2 (young ∷ [])
   left-over = represents-advance two 1 (omega arith)
@@ -67,7 +68,7 @@ module _ (x u : List ℕ) (fits : length x ≡ 3 * 2560) (size : length u ≡ 23
       answers taking-abort (set-up ++ disc u 0 ∷ disc u 1 ∷ transfer 14 2 ++ word ∷ srst ∷ command 0 ∷ write 0x17 0x04 ∷ word ∷ [])
       (taking-abort .opened 3 x)
       ≡ ok ∷ ok ∷ ok ∷ ok ∷ ok ∷ ok ∷ ok ∷ ok ∷ ok ∷ handed 256 ∷ ok ∷ ok ∷ ok ∷ handed 257 ∷ []
-  unfolding abort-step chip-answer chip-step opened called sound stepped concluded settled admission counted next byte-count start registers.write registers.write-bicctl registers.write-acctl registers.write-ctrl0 registers.write-asctrl registers.write-astrg set-window host-word host-command framed body
+  unfolding abort-step chip-answer chip-step opened called sound stepped concluded settled admission counted next byte-count start registers.write registers.write-bicctl registers.write-acctl registers.write-ctrl0 registers.write-asctrl registers.write-astrg set-window host-word host-command encoded with-parity framed body
   run =
       (calls set-up (taking-abort .opened 3 x)
       then on-disc abort-step (λ _ _. refl) (λ _. refl) (decoding 0) (at 3 0 0 0) x refl fits u size 0 _ refl (own u size 0)

@@ -7,8 +7,9 @@ use native.Mathlib.Omega.{arith}
 use lib.ListN.{length, replicate, length-replicate}
 use Rattle.sector.specs.Address.{next}
 use Rattle.sector.specs.Claims.{address-alone}
-use Rattle.sector.specs.Sector.{body, framed}
-use Rattle.sector.proofs.Frames.{length-framed}
+use Rattle.parity.specs.Parity.{with-parity}
+use Rattle.sector.specs.Sector.{body, framed, encoded}
+use Rattle.sector.proofs.Frames.{length-encoded}
 use Rattle.controller.specs.Calls.{stepped}
 use Rattle.controller.specs.Decoder.{admission, counted}
 use Rattle.controller.specs.Fields.{_▹_, bufc≔, held≔, judgement≔, window≔, adcen≔, bsy≔}
@@ -40,10 +41,10 @@ moving = started (decoding 1 ▹ window≔ (record { offset = 14; words = 1 }) �
 
 module _ (x u : List ℕ) (fits : length x ≡ 3 * 2560) (size : length u ≡ 2352) where
   abbrev bad : List ℕ
-  bad = framed (frame 5) u
+  bad = encoded (frame 5) u
 
   abbrev best : List ℕ
-  best = framed (frame 0) u
+  best = encoded (frame 0) u
 
   abbrev ring1 : List ℕ
   ring1 = stored x 0 bad
@@ -52,16 +53,16 @@ module _ (x u : List ℕ) (fits : length x ≡ 3 * 2560) (size : length u ≡ 23
   ring2 = stored ring1 1 best
 
   one : Represents (at 3 0 1 0) 1 1 ring1 (bad ∷ [])
-  one = one-stored x bad best fits (length-framed (frame 5) u size) (length-framed (frame 0) u size)
+  one = one-stored x bad best fits (length-encoded (frame 5) u size) (length-encoded (frame 0) u size)
 
   -- the memory, whatever the chip takes it for
   two : Represents (at 3 0 2 1) 2 2 ring2 (bad ∷ best ∷ [])
-  two = two-stored x bad best fits (length-framed (frame 5) u size) (length-framed (frame 0) u size)
+  two = two-stored x bad best fits (length-encoded (frame 5) u size) (length-encoded (frame 0) u size)
 
   run :
       answers bad-restart (set-up ++ disc u 5 ∷ restart ++ disc u 0 ∷ transfer 14 1 ++ word ∷ []) (bad-restart .opened 3 x)
       ≡ ok ∷ ok ∷ ok ∷ replied 0 1 ∷ ok ∷ ok ∷ ok ∷ ok ∷ ok ∷ ok ∷ ok ∷ handed 261 ∷ []
-  unfolding restart-step chip-answer chip-step chip.opened called sound stepped concluded settled admission counted next byte-count start registers.write registers.write-bicctl registers.write-acctl registers.write-ctrl0 registers.write-asctrl registers.write-astrg set-window host-word host-command framed body
+  unfolding restart-step chip-answer chip-step chip.opened called sound stepped concluded settled admission counted next byte-count start registers.write registers.write-bicctl registers.write-acctl registers.write-ctrl0 registers.write-asctrl registers.write-astrg set-window host-word host-command encoded with-parity framed body
   run =
       (calls set-up (bad-restart .opened 3 x)
       then on-disc restart-step (λ _ _. refl) (λ _. refl) (decoding 0) (at 3 0 0 0) x refl fits u size 5 _ refl (not-expected u size)
@@ -75,10 +76,10 @@ module _ (u : List ℕ) (size : length u ≡ 2352) where
   right :
       Gives the-row 3 (set-up ++ disc u 5 ∷ restart ++ disc u 0 ∷ transfer 14 1 ++ word ∷ [])
       (ok ∷ ok ∷ ok ∷ replied 0 1 ∷ ok ∷ ok ∷ ok ∷ ok ∷ ok ∷ ok ∷ ok ∷ handed 256 ∷ [])
-  unfolding row-answer row-step stepped concluded settled admission counted next byte-count start registers.write registers.write-bicctl registers.write-acctl registers.write-ctrl0 registers.write-asctrl registers.write-astrg set-window host-word host-command framed body
+  unfolding row-answer row-step stepped concluded settled admission counted next byte-count start registers.write registers.write-bicctl registers.write-acctl registers.write-ctrl0 registers.write-asctrl registers.write-astrg set-window host-word host-command encoded with-parity framed body
   right =
       by-row (calls set-up (opened 3) then decoded u size 5 (filled 0 []) _ (not-expected u size) then calls restart _
-      then decoded u size 0 _ _ (own u size 0) then calls (transfer 14 1 ++ word ∷ []) (filled 1 (framed (frame 0) u ∷ [])))
+      then decoded u size 0 _ _ (own u size 0) then calls (transfer 14 1 ++ word ∷ []) (filled 1 (encoded (frame 0) u ∷ [])))
 
 module _ (D : Demand3 the-row) where
   by : (u : List ℕ) → length u ≡ 2352 → Shut-out bad-restart

@@ -15,7 +15,7 @@ use Rattle.calls.specs.declared.Call.{Call as Plain}
 use Rattle.calls.specs.declared.Call.the-variants.{Write, Read, SetBlock, SetWindow, SetExpected, PacketByte, Reset, Command, PacketWord, Status, Srst}
 use Rattle.reply.specs.Reply.{refusal, answer}
 use Rattle.sector.specs.Address.{valid}
-use Rattle.sector.specs.Calls.{whole, seal-reply, seal-sector, open-reply, open-sector, refused as unjudged, judge-answer}
+use Rattle.sector.specs.Calls.{whole, seal-reply, seal-sector, open-reply, open-sector, refused as unjudged, judge-answer, parity-reply}
 use Rattle.sector.specs.declared.Address.{Address}
 use Rattle.controller.specs.Bits.{bit, only, differs}
 use Rattle.controller.specs.Decoder.{at-stop}
@@ -147,10 +147,12 @@ pub record Demand1 : Type 0 where
   -- opening: 3..255 is done and gives a sound record with that many blocks; any other is 1 and gives an unsound one with N = 0
   pub opening : (n : ℕ) → 3 ≤ n → n ≤ 255 → (opened n .reply ≡ answer 0) × (opened n .chip .place .n ≡ n) × (sound (opened n .chip) ≡ true)
   pub unopened : (n : ℕ) → (3 ≤ n → n ≤ 255 → ⊥) → (opened n .reply ≡ refusal 1) × (opened n .chip .place .n ≡ 0) × (sound (opened n .chip) ≡ false)
-  -- a sector that is lent to be sealed, opened or judged: a refusal changes no byte, and has a zero result or no fact
+  -- a sector that is lent to be sealed, opened, judged or checked: a refusal changes no byte, and has a zero result or no fact
   pub sealing : (s : List ℕ) (a : Address) → Lowest (sealing-reasons s a) (seal-reply s a .number)
   pub unsealed : (s : List ℕ) (a : Address) → (seal-reply s a .number ≡ 0 → ⊥) → (seal-reply s a .result ≡ 0) × (seal-sector s a ≡ s)
   pub descrambling : (s : List ℕ) → Lowest ((not (whole s), 1) ∷ []) (open-reply s .number)
   pub unchanged : (s : List ℕ) → (open-reply s .number ≡ 0 → ⊥) → (open-reply s .result ≡ 0) × (open-sector s ≡ s)
   pub judging : (s : List ℕ) (a : Address) → Lowest (sealing-reasons s a) (judge-answer s a .number)
   pub no-fact : (s : List ℕ) (a : Address) → (judge-answer s a .number ≡ 0 → ⊥) → judge-answer s a ≡ unjudged (judge-answer s a .number)
+  pub checking : (s : List ℕ) → Lowest ((not (whole s), 1) ∷ []) (parity-reply s .number)
+  pub unchecked : (s : List ℕ) → (parity-reply s .number ≡ 0 → ⊥) → parity-reply s .result ≡ 0

@@ -13,7 +13,7 @@ use Rattle.calls.specs.declared.Call.{Call as Plain}
 use Rattle.calls.specs.declared.Call.the-variants.{Write, Reset, Status}
 use Rattle.laws.specs.Bytes.{Bytes}
 use Rattle.scramble.specs.Scramble.{scrambled}
-use Rattle.sector.specs.Sector.{framed}
+use Rattle.sector.specs.Sector.{encoded}
 use Rattle.controller.specs.Fields.{_▹_, tcc≔, bufc≔, ttc≔, expected≔, buflim≔, acctl≔, judgement≔, mbc≔, window≔, transfer≔, received≔}
 use Rattle.controller.specs.State.{initial}
 use Rattle.controller.specs.declared.state.Controller.{Controller}
@@ -65,7 +65,7 @@ pub record GivenLook (c : Chip) (ring : List ℕ) : Type 0 where
 
 -- the sector sealed at 00:02:f with byte k of it changed to v
 abbrev pub damaged : List ℕ → ℕ → ℕ → ℕ → Call
-damaged u f k v = sector (scrambled (set (framed (address 0 2 f) u) k v))
+damaged u f k v = sector (scrambled (set (encoded (address 0 2 f) u) k v))
 
 -- a byte behind the header, up to the code's last, and another value for it
 pub record GivenCode (u : List ℕ) (k v : ℕ) : Type 0 where
@@ -74,7 +74,7 @@ pub record GivenCode (u : List ℕ) (k v : ℕ) : Type 0 where
   pub behind : 16 ≤ k
   pub before : k < 2068
   pub byte : v < 256
-  pub other : v ≡ getD (framed (address 0 2 1) u) k 0 → ⊥
+  pub other : v ≡ getD (encoded (address 0 2 1) u) k 0 → ⊥
 
 -- an answer of telling-why
 abbrev pub kept : ℕ → Answer

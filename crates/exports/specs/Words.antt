@@ -6,7 +6,7 @@ use Rattle.laws.specs.Bytes.{pair}
 use Rattle.sector.specs.declared.Address.{Address}
 use Rattle.reply.specs.declared.Reply.{Reply}
 use Rattle.sector.specs.declared.Judged.{Judged}
-use Rattle.sector.specs.Calls.{seal-reply, open-reply, judge-answer}
+use Rattle.sector.specs.Calls.{seal-reply, open-reply, judge-answer, parity-reply}
 use Rattle.sector.specs.Judge.{why}
 use Rattle.script.specs.Bench.{Left, started}
 use Rattle.script.specs.Feed.{fed-text}
@@ -33,6 +33,9 @@ open-word s = reply-word (open-reply s)
 
 abbrev pub judge-word : List ℕ → Address → ℕ
 judge-word s a = judged-word (judge-answer s a)
+
+abbrev pub parity-word : List ℕ → ℕ
+parity-word s = reply-word (parity-reply s)
 
 -- what lines leave, with the length of their answers as the result
 abbrev pub with-size : Left Fed → Left ℕ

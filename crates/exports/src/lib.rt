@@ -10,7 +10,7 @@ use answer::packed;
 ghost use mathlib.Core.Path.{_≡_};
 ghost use Rattle.edc.specs.Edc.{edc};
 ghost use Rattle.sector.specs.Calls.{seal-sector, open-sector};
-ghost use Rattle.exports.specs.Words.{at, seal-word, open-word, judge-word, bench-run};
+ghost use Rattle.exports.specs.Words.{at, seal-word, open-word, judge-word, parity-word, bench-run};
 use script::Bench;
 
 // Seals a buffer at an address where it lies.
@@ -42,6 +42,16 @@ pub extern "C" fn cdrom_judge(sector: &[u8], minute: u16, second: u16, frame: u1
     let judged = sector::judge(sector, at(minute, second, frame));
     let judgement = judged.judgement;
     packed(judged.number, judgement.why())
+}
+
+// Checks the parity of an opened sector.
+// Ruled out: one that answers 0 for yes, and one that answers a wrong length as it answers no.
+#[no_mangle]
+pub extern "C" fn cdrom_parity(sector: &[u8]) -> u32
+    ensures { λ r. ⌜ r ≡ parity-word (now (sector .entry)) ⌝ }
+{
+    let checked = sector::check_parity(sector);
+    packed(checked.number, checked.result)
 }
 
 // The error detection code of the bytes, whatever their number.

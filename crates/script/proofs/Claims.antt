@@ -5,14 +5,17 @@ use mathlib.Core.Path.{_≡_, refl, sym, ap, _∙_}
 use mathlib.Core.Bool.{Bool, true, false, not, _&&_, true≢false}
 use mathlib.Core.List.{List, [], _∷_, _++_}
 use lib.Dec.{ltb, eqb}
-use lib.ListN.{length, take, drop, length-append, take-append-drop}
+use native.Mathlib.Omega.{arith}
+use lib.ListN.{length, take, drop, replicate, length-append, take-append-drop}
 use borrow.Author.Tests.{eq-eqb, ne-eqb, eqb-true}
 use Rattle.laws.specs.Choice.{if_then_else_}
-use Rattle.laws.proofs.Bytes.{complement-bits}
+use Rattle.laws.specs.Bytes.{Bytes}
+use Rattle.laws.proofs.Bytes.{complement-bits, bytes-append, bytes-replicate}
 use Rattle.laws.proofs.Choice.{if-case, if-true, if-false, not-of-true}
 use Rattle.sector.specs.Address.{valid}
 use Rattle.sector.specs.Calls.{seal-sector}
 use Rattle.sector.specs.declared.Address.{Address}
+use Rattle.sector.proofs.Claims.{seal-holds}
 use Rattle.sector.proofs.Sealed.{count}
 use Rattle.sector.specs.Judge.{good}
 use Rattle.sector.specs.declared.Judgement.{Judgement}
@@ -232,9 +235,21 @@ machine-claim = record {
   scratch-runs = λ c d ring s from count. ap (unchanged ring s) (scratch-told c from count);
 }
 
+-- every byte of a fill sector is one
+fill-bytes : (byte : ℕ) → byte ≤ 255 → Bytes (unsealed byte)
+unfolding unsealed
+fill-bytes byte h =
+    bytes-append (replicate 16 0) (replicate 2048 byte ++ replicate 288 0) (bytes-replicate 16 0 (omega arith))
+    (bytes-append (replicate 2048 byte) (replicate 288 0) (bytes-replicate 2048 byte (omega arith)) (bytes-replicate 288 0 (omega arith)))
+
+fill-size : (byte : ℕ) → length (unsealed byte) ≡ 2352
+unfolding unsealed
+fill-size byte = simp length-append
+
 pub disc-claim : DiscClaim
 unfolding damage-after
 disc-claim = record {
+  parity = λ a byte h v. seal-holds (unsealed byte) a (fill-size byte) v .parity (fill-bytes byte h);
   bits = λ x h. ap (λ (y : ℕ). y ∷ []) (complement-bits x h);
   as-long = length-scratched;
   none = scratched-none;

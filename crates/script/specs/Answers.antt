@@ -54,7 +54,7 @@ word c ring =
 abbrev pub look : Chip → List ℕ → Answer
 look c ring = record { opened = true; chip = c; number = 0; out = length (calls.looked c ring) }
 
--- a bench sector before it is sealed: every user byte equal to the fill, all else 0
+-- a bench sector before it is sealed: every user byte equal to the fill; all else is written by sealing, and 0 until then
 unfoldable pub unsealed : ℕ → List ℕ
 unsealed byte = replicate 16 0 ++ (replicate 2048 byte ++ replicate 288 0)
 

@@ -11,7 +11,8 @@ use Rattle.laws.specs.Bytes.{inverted}
 use Rattle.laws.specs.Choice.{if_then_else_}
 use Rattle.calls.specs.declared.Call.{Call as Lent-nothing}
 use Rattle.sector.specs.Address.{valid}
-use Rattle.sector.specs.Calls.{seal-sector}
+use Rattle.reply.specs.Reply.{answer}
+use Rattle.sector.specs.Calls.{seal-sector, open-sector, parity-reply}
 use Rattle.sector.specs.declared.Address.{Address}
 use Rattle.outcomes.specs.Machine.{Call, plain, sector, look, word, Answer, replied, handed, refused, seen, number}
 use Rattle.chip.specs.Machine.{over, chip-answer, chip-step}
@@ -73,8 +74,10 @@ pub record MachineClaim : Type 0 where
       → called c d ring s (Scratch from count)
       ≡ unchanged ring s (record { opened = true; chip = c; number = if leb (from + count) 2352 then 0 else 3; out = 0 })
 
--- the disc: what a scratch does to a sector, and how long it is waited for
+-- the disc: what its sectors are, what a scratch does to one, and how long it is waited for
 pub record DiscClaim : Type 0 where
+  -- a fill sector carries true parity
+  pub parity : (a : Address) (byte : ℕ) → byte ≤ 255 → valid a ≡ true → parity-reply (open-sector (seal-sector (unsealed byte) a)) ≡ answer 1
   -- inverted is all eight bits of each byte turned round; the sector is as long as before; count 0 damages nothing
   pub bits : (x : ℕ) → x < 256 → inverted (x ∷ []) ≡ bitXor x 0xFF ∷ []
   pub as-long : (d : Damage) (s : List ℕ) → length s ≡ 2352 → length (scratched d s) ≡ 2352

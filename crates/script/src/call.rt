@@ -138,7 +138,7 @@ fn disc_number(chip: Chip, ring: &[u8], sector: &[u8], address: Address, byte: u
     chip.sector_number(ring, sector)
 }
 
-// A sector sealed at the address, every user byte equal to the fill and every parity byte 0, as it arrives.
+// A sector sealed at the address, every user byte equal to the fill, as it arrives.
 fn disc(
     chip: Chip,
     damage: Damage,

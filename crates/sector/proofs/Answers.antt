@@ -7,15 +7,17 @@ use lib.ListN.{length}
 use lib.Dec.{eqb}
 use native.Mathlib.Omega.{arith}
 use borrow.Author.Tests.{eq-eqb, ne-eqb, eqb-true, eqb-false}
+use Rattle.laws.specs.Numbers.{weight}
+use Rattle.parity.specs.Parity.{parity-holds}
 use Rattle.reply.specs.Reply.{refusal, answer}
 use Rattle.scramble.specs.Scramble.{scrambled}
 use Rattle.sector.specs.declared.Address.{Address}
 use Rattle.sector.specs.declared.Judgement.{Judgement}
 use Rattle.sector.specs.declared.Judged.{Judged}
 use Rattle.sector.specs.Address.{valid}
-use Rattle.sector.specs.Sector.{framed, sealed}
+use Rattle.sector.specs.Sector.{encoded, sealed}
 use Rattle.sector.specs.Judge.{sync-holds, mode-holds, edc-holds, address-holds, judgement}
-use Rattle.sector.specs.Calls.{seal-reply, seal-sector, open-reply, open-sector, refused, judge-answer}
+use Rattle.sector.specs.Calls.{seal-reply, seal-sector, open-reply, open-sector, refused, judge-answer, parity-reply}
 
 -- ---- the four facts from their tests
 
@@ -58,7 +60,7 @@ module _ (s : List ℕ) (a : Address) (full : length s ≡ 2352) where
   unfolding seal-reply seal-sector
   seal-out v = (simp (eq-eqb (length s) 2352 full, v), simp (eq-eqb (length s) 2352 full, v))
 
-  pub seal-done : valid a ≡ true → (answer 0 ≡ seal-reply s a) × (scrambled (framed a s) ≡ seal-sector s a)
+  pub seal-done : valid a ≡ true → (answer 0 ≡ seal-reply s a) × (scrambled (encoded a s) ≡ seal-sector s a)
   unfolding seal-reply seal-sector sealed
   seal-done v = (simp (eq-eqb (length s) 2352 full, v), simp (eq-eqb (length s) 2352 full, v))
 
@@ -89,3 +91,13 @@ pub judged-facts : (s : List ℕ) (a : Address) (j : Judgement) → judge-answer
 judged-facts s a j h =
     let ok = accepted s a (ap (λ (x : Judged). x .number) h) in
     ap (λ (x : Judged). x .judgement) (judge-done s a (ok .0) (ok .1) ∙ h)
+
+-- ---- the parity check
+
+pub parity-short : (s : List ℕ) → (length s ≡ 2352 → ⊥) → refusal 1 ≡ parity-reply s
+unfolding parity-reply
+parity-short s short = simp (ne-eqb (length s) 2352 short)
+
+pub parity-done : (s : List ℕ) → length s ≡ 2352 → answer (weight (parity-holds false s) 1) ≡ parity-reply s
+unfolding parity-reply
+parity-done s full = simp (eq-eqb (length s) 2352 full)

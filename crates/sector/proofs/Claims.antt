@@ -7,9 +7,12 @@ use native.Mathlib.Omega.{arith}
 use lib.ListN.{length, replicate, length-replicate}
 use Rattle.sector.specs.declared.Address.{Address}
 use Rattle.sector.specs.Address.{valid}
-use Rattle.sector.specs.Claims.{SealClaim, ChangeClaim, DamageClaim, FactsClaim, IndependentClaim, NextClaim, MetClaim}
+use Rattle.sector.specs.Claims.{SealClaim, ChangeClaim, DamageClaim, FactsClaim, IndependentClaim, CheckClaim, NextClaim, MetClaim}
 use Rattle.sector.proofs.Addresses.{next-valid}
-use Rattle.sector.proofs.Sealed.{count, bytes, user-back, address-back, own, other, again}
+use Rattle.laws.specs.Bytes.{Bytes}
+use Rattle.laws.proofs.Bytes.{bytes-replicate}
+use Rattle.sector.proofs.Checked.{detected, sync-free, zeros-hold, only}
+use Rattle.sector.proofs.Sealed.{count, bytes, user-back, address-back, own, other, again, by-user, zeros-behind, parity}
 use Rattle.sector.proofs.Damage.{changed, damage}
 use Rattle.sector.proofs.FourFacts.{facts, independent}
 
@@ -22,7 +25,13 @@ seal-holds s a full v = record {
   own = own a s full v;
   other = other a s full v;
   again = again a s full v;
+  by-user = by-user a s full v;
+  zeros = zeros-behind a s full v;
+  parity = parity a s full v;
 }
+
+pub check-holds : CheckClaim
+check-holds = record { detected = detected; sync-free = sync-free; zeros = zeros-hold; only = only }
 
 pub change-holds : ChangeClaim
 change-holds = changed
@@ -46,6 +55,10 @@ zeros = replicate 2352 0
 zeros-long : length zeros ≡ 2352
 unfolding zeros
 zeros-long = length-replicate {A = ℕ} 2352 0
+
+zeros-bytes : Bytes zeros
+unfolding zeros
+zeros-bytes = bytes-replicate 2352 0 (omega arith)
 
 start : Address
 start = record { minute = 0; second = 2; frame = 0 }
@@ -71,6 +84,7 @@ premises-met = record {
   address = start;
   other = after;
   whole = zeros-long;
+  bytes = zeros-bytes;
   in-range = start-valid;
   in-range-too = after-valid;
   apart = not-start;

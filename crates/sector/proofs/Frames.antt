@@ -1,20 +1,23 @@
--- The laws of framed sectors: how the code's two copies make one, and what stands where in it. Assumes nothing.
+-- The laws of sectors before they are scrambled: how the code's two copies frame one, and what stands where in it. Assumes nothing.
 use mathlib.Core.Path.{_≡_, refl, sym, ap, ap₂, _∙_}
-use mathlib.Core.Bool.{true}
-use mathlib.Core.List.{List, [], _∷_, _++_}
+use mathlib.Core.Bool.{true, false}
+use mathlib.Core.List.{List, [], _∷_, _++_, append-assoc}
 use Prim.Native.Nat.{ℕ, _+_, _-_, _/_, _%_, _^_, _<_}
 use native.Mathlib.Omega.{arith}
-use lib.ListN.{length, take, drop, getD, length-append, length-drop}
+use lib.ListN.{length, take, drop, getD, replicate, length-append, length-drop}
 use lib.Seq.{length-take-le, take-length, take-append-add, drop-append-add, drop-drop, take-at, drop-at, drop-append-le}
 use borrow.Rule.Slice.PartMut.{putMid, midOf}
 use Rattle.laws.specs.Bytes.{Bytes}
 use Rattle.laws.proofs.Bytes.{bytes-nil, bytes-cons, bytes-append, bytes-take, bytes-drop, bytes-of}
 use Rattle.laws.proofs.Parts.{put-rest, mid-rest}
 use Rattle.edc.specs.Edc.{edc}
+use Rattle.parity.specs.Layout.{p, q}
+use Rattle.parity.specs.Parity.{parity-bytes, coded, with-parity, parity-holds}
+use Rattle.parity.proofs.Validity.{length-with, with-parts, bytes-with, valid-with}
 use Rattle.sector.specs.declared.Address.{Address}
-use Rattle.sector.specs.Address.{valid, address-bytes}
-use Rattle.sector.specs.Sector.{sync, head, user, low4, tail, body, framed}
-use Rattle.sector.proofs.Addresses.{bytes-address}
+use Rattle.sector.specs.Address.{valid, address-bytes, address-of}
+use Rattle.sector.specs.Sector.{sync, head, user, low4, tail, body, framed, encoded}
+use Rattle.sector.proofs.Addresses.{bytes-address, from-bytes}
 
 -- with the head written
 module _ (a : Address) (s : List ℕ) where
@@ -32,7 +35,7 @@ copied xs d e h = h ∙ ap (λ (l : List ℕ). l ++ drop (length xs) d) (take-le
 
 -- the head is copied to the front, and then the tail behind the bytes that its code is taken over
 pub made : (a : Address) (s h t d e : List ℕ) → h ≡ head a → d ≡ take (length h) h ++ drop (length h) s → t ≡ tail (edc 0 (take 2064 d))
-    → e ≡ take (length t) t ++ drop (length t) (midOf 2064 (length d - 2064) d) → putMid 2064 (length d - 2064) d e ≡ framed a s
+    → e ≡ take (length t) t ++ drop (length t) (midOf 2064 (length d - 2064) d) → putMid 2064 (length d - 2064) d e ≡ framed a s ++ drop 2076 s
 unfolding framed
 made a s h t d e eh ed et ee =
     let d-is : d ≡ head a ++ drop 16 s = copied h s d ed ∙ ap (λ (l : List ℕ). l ++ drop (length l) s) eh in
@@ -41,8 +44,9 @@ made a s h t d e eh ed et ee =
     let rest : drop (length t) (midOf 2064 (length d - 2064) d) ≡ drop 2076 s =
     ap₂ (λ (x y : List ℕ). drop (length x) y) t-is (mid-rest 2064 d) ∙ ap (λ (l : List ℕ). drop 12 (drop 2064 l)) d-is ∙ behind a s in
     put-rest 2064 d e ∙ ap₂ (λ (x y : List ℕ). x ++ y) f (copied t (midOf 2064 (length d - 2064) d) e ee ∙ ap₂ (λ (x y : List ℕ). x ++ y) t-is rest)
+    ∙ sym (append-assoc (body a s) (tail (edc 0 (body a s))) (drop 2076 s))
 
--- ---- what stands where in a framed sector
+-- ---- what stands where
 
 module _ (a : Address) (s : List ℕ) (full : length s ≡ 2352) where
   length-user : length (user s) ≡ 2048
@@ -52,49 +56,67 @@ module _ (a : Address) (s : List ℕ) (full : length s ≡ 2352) where
   unfolding body
   length-body = length-append (head a) (user s) ∙ ap (λ (n : ℕ). 16 + n) length-user
 
-  pub length-framed : length (framed a s) ≡ 2352
+  pub length-framed : length (framed a s) ≡ 2076
   unfolding framed
-  length-framed = simp (length-append, length-drop) (omega (arith, length-body))
+  length-framed = simp length-append (omega (arith, length-body))
 
-  pub front-framed : take 2064 (framed a s) ≡ body a s
+  pub length-encoded : length (encoded a s) ≡ 2352
+  unfolding encoded
+  length-encoded = length-with false (framed a s) length-framed
+
+  -- the frame, and the parity behind it
+  abbrev parity : List ℕ
+  parity = parity-bytes p false (framed a s) ++ parity-bytes q false (coded p false (framed a s))
+
+  pub encoded-parts : encoded a s ≡ framed a s ++ parity
+  unfolding encoded
+  encoded-parts = with-parts false (framed a s) length-framed
+
+  -- so what stands behind the body is the code, zeros and parity
+  from-body : encoded a s ≡ body a s ++ (tail (edc 0 (body a s)) ++ parity)
   unfolding framed
-  front-framed = take-at (body a s) (tail (edc 0 (body a s)) ++ drop 2076 s) 2064 length-body
+  from-body = encoded-parts ∙ append-assoc (body a s) (tail (edc 0 (body a s))) parity
 
-  pub back-framed : drop 2064 (framed a s) ≡ tail (edc 0 (body a s)) ++ drop 2076 s
-  unfolding framed
-  back-framed = drop-at (body a s) (tail (edc 0 (body a s)) ++ drop 2076 s) 2064 length-body
+  front-encoded : take 2064 (encoded a s) ≡ body a s
+  front-encoded = ap (take 2064) from-body ∙ take-at (body a s) (tail (edc 0 (body a s)) ++ parity) 2064 length-body
 
-  pub code-framed : take 4 (drop 2064 (framed a s)) ≡ low4 (edc 0 (take 2064 (framed a s)))
-  code-framed = ap (take 4) back-framed ∙ ap (λ (l : List ℕ). low4 (edc 0 l)) (sym front-framed)
+  back-encoded : drop 2064 (encoded a s) ≡ tail (edc 0 (body a s)) ++ parity
+  back-encoded = ap (drop 2064) from-body ∙ drop-at (body a s) (tail (edc 0 (body a s)) ++ parity) 2064 length-body
 
-  pub user-framed : user (framed a s) ≡ user s
-  unfolding framed body
-  user-framed =
-      ap (take 2048) (drop-append-le 16 (body a s) (tail (edc 0 (body a s)) ++ drop 2076 s) (omega (arith, length-body)))
-      ∙ take-at (user s) (tail (edc 0 (body a s)) ++ drop 2076 s) 2048 length-user
+  pub code-encoded : take 4 (drop 2064 (encoded a s)) ≡ low4 (edc 0 (take 2064 (encoded a s)))
+  code-encoded = ap (take 4) back-encoded ∙ ap (λ (l : List ℕ). low4 (edc 0 l)) (sym front-encoded)
 
-  pub parity-framed : drop 2076 (framed a s) ≡ drop 2076 s
-  parity-framed = sym (drop-drop 12 2064 (framed a s)) ∙ ap (drop 12) back-framed
+  pub zeros-encoded : take 8 (drop 2068 (encoded a s)) ≡ replicate 8 0
+  zeros-encoded = ap (take 8) (sym (drop-drop 4 2064 (encoded a s)) ∙ ap (drop 4) back-encoded)
 
-  -- framed again at the same address, it stays
-  pub framed-twice : framed a (framed a s) ≡ framed a s
-  unfolding framed body
-  framed-twice = ap₂ (λ (u p : List ℕ). (head a ++ u) ++ (tail (edc 0 (head a ++ u)) ++ p)) user-framed parity-framed
+  pub user-encoded : user (encoded a s) ≡ user s
+  unfolding body
+  user-encoded =
+      ap (λ (l : List ℕ). user l) from-body
+      ∙ ap (take 2048) (drop-append-le 16 (body a s) (tail (edc 0 (body a s)) ++ parity) (omega (arith, length-body)))
+      ∙ take-at (user s) (tail (edc 0 (body a s)) ++ parity) 2048 length-user
 
--- ---- its sync bytes, address and mode, which need no length
+  -- its sync bytes, address and mode
+  pub sync-encoded : take 12 (encoded a s) ≡ sync
+  unfolding body
+  sync-encoded = ap (take 12) from-body
 
-module _ (a : Address) (s : List ℕ) where
-  pub sync-framed : take 12 (framed a s) ≡ sync
-  unfolding framed body
-  sync-framed = refl
+  pub header-encoded : take 3 (drop 12 (encoded a s)) ≡ address-bytes a
+  unfolding body
+  header-encoded = ap (λ (l : List ℕ). take 3 (drop 12 l)) from-body
 
-  pub header-framed : take 3 (drop 12 (framed a s)) ≡ address-bytes a
-  unfolding framed body
-  header-framed = refl
+  pub mode-encoded : getD (encoded a s) 15 0 ≡ 1
+  unfolding body
+  mode-encoded = ap (λ (l : List ℕ). getD l 15 0) from-body
 
-  pub mode-framed : getD (framed a s) 15 0 ≡ 1
-  unfolding framed body
-  mode-framed = refl
+  pub address-bytes-encoded : address-of (encoded a s) ≡ from-bytes (address-bytes a)
+  unfolding body address-of from-bytes
+  address-bytes-encoded = ap address-of from-body
+
+-- of what lay there only the user bytes count
+pub encoded-by-user : (a : Address) (s t : List ℕ) → user s ≡ user t → encoded a s ≡ encoded a t
+unfolding encoded framed body
+encoded-by-user a s t e = ap (λ (u : List ℕ). with-parity false ((head a ++ u) ++ tail (edc 0 (head a ++ u)))) e
 
 -- ---- its bytes
 
@@ -110,15 +132,25 @@ bytes-tail e =
     (bytes-cons (e / 16777216 % 256) [] (mod-byte (e / 16777216)) bytes-nil))))
     (bytes-of (0 ∷ 0 ∷ 0 ∷ 0 ∷ 0 ∷ 0 ∷ 0 ∷ 0 ∷ []) refl)
 
-pub bytes-framed : (a : Address) (s : List ℕ) → valid a ≡ true → Bytes s → Bytes (framed a s)
+bytes-framed : (a : Address) (s : List ℕ) → valid a ≡ true → Bytes s → Bytes (framed a s)
 unfolding framed body
 bytes-framed a s v h =
-    bytes-append (head a ++ user s) (tail (edc 0 (head a ++ user s)) ++ drop 2076 s)
+    bytes-append (head a ++ user s) (tail (edc 0 (head a ++ user s)))
     (bytes-append (head a) (user s)
     (bytes-append (sync ++ address-bytes a) (1 ∷ [])
     (bytes-append sync (address-bytes a) (bytes-of sync refl) (bytes-address a v)) (bytes-of (1 ∷ []) refl))
     (bytes-take 2048 (drop 16 s) (bytes-drop 16 s h)))
-    (bytes-append (tail (edc 0 (head a ++ user s))) (drop 2076 s) (bytes-tail (edc 0 (head a ++ user s))) (bytes-drop 2076 s h))
+    (bytes-tail (edc 0 (head a ++ user s)))
+
+module _ (a : Address) (s : List ℕ) (full : length s ≡ 2352) (v : valid a ≡ true) (h : Bytes s) where
+  pub bytes-encoded : Bytes (encoded a s)
+  unfolding encoded
+  bytes-encoded = bytes-with false (framed a s) (length-framed a s full) (bytes-framed a s v h)
+
+  -- every parity word holds
+  pub parity-encoded : parity-holds false (encoded a s) ≡ true
+  unfolding encoded
+  parity-encoded = valid-with false (framed a s) (length-framed a s full) (bytes-framed a s v h)
 
 -- ---- the code's four bytes tell the code
 

@@ -6,4 +6,5 @@ pub mod Sealed
 pub mod Received
 pub mod Damage
 pub mod FourFacts
+pub mod Checked
 pub mod Claims

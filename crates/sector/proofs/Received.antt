@@ -7,7 +7,7 @@ use Rattle.scramble.specs.Scramble.{scrambled}
 use Rattle.scramble.proofs.Scrambled.{length-scrambled}
 use Rattle.sector.specs.declared.Address.{Address}
 use Rattle.sector.specs.declared.Judgement.{Judgement}
-use Rattle.sector.specs.Sector.{framed, sealed}
+use Rattle.sector.specs.Sector.{encoded, sealed}
 use Rattle.sector.specs.Judge.{judgement}
 use Rattle.sector.specs.Receive.{received}
 use Rattle.sector.proofs.Sealed.{opened}
@@ -23,7 +23,7 @@ module _ (e : Address) (s : List ℕ) where
   unfolding received
   length-received full = length-scrambled s full
 
--- a sector that was sealed at a is received as it was framed there
-pub received-sealed : (e a : Address) (u : List ℕ) → length u ≡ 2352 → received e (sealed a u) ≡ record { bytes = framed a u; judgement = judgement e (framed a u) }
+-- a sector that was sealed at a is received as it was encoded there
+pub received-sealed : (e a : Address) (u : List ℕ) → length u ≡ 2352 → received e (sealed a u) ≡ record { bytes = encoded a u; judgement = judgement e (encoded a u) }
 unfolding received
 received-sealed e a u full = ap (λ (l : List ℕ). record { bytes = l; judgement = judgement e l }) (opened a u full)

@@ -1,10 +1,12 @@
--- What each call answers and leaves, on every input (paper 01, "Reply numbers" and "Sectors"). Assumes nothing.
-use mathlib.Core.Bool.{Bool}
+-- What each call answers and leaves, on every input (paper 01, "Reply numbers" and "Sectors"; paper 02). Assumes nothing.
+use mathlib.Core.Bool.{Bool, false}
 use mathlib.Core.List.{List}
 use Prim.Native.Nat.{ℕ}
 use lib.Dec.{eqb}
 use lib.ListN.{length}
 use Rattle.laws.specs.Choice.{if_then_else_}
+use Rattle.laws.specs.Numbers.{weight}
+use Rattle.parity.specs.Parity.{parity-holds}
 use Rattle.reply.specs.Reply.{refusal, answer}
 use Rattle.reply.specs.declared.Reply.{Reply}
 use Rattle.scramble.specs.Scramble.{scrambled}
@@ -39,3 +41,7 @@ refused n = record { number = n; judgement = no-facts }
 
 unfoldable pub judge-answer : List ℕ → Address → Judged
 judge-answer s a = if whole s then (if valid a then record { number = 0; judgement = judgement a s } else refused 3) else refused 1
+
+-- the parity check of a descrambled sector (paper 02, ask 2): 1 if every word holds, 0 if one does not; by the rule of mode 1, whatever its mode byte
+unfoldable pub parity-reply : List ℕ → Reply
+parity-reply s = if whole s then answer (weight (parity-holds false s) 1) else refusal 1

@@ -1,20 +1,21 @@
 -- What is claimed of the calls' answers; proofs/Claims.antt proves it. Assumes nothing.
 use mathlib.Core.Path.{_≡_}
-use mathlib.Core.Bool.{Bool, true, false, not, _&&_}
+use mathlib.Core.Bool.{true, false, not, _&&_}
 use mathlib.Core.List.{List}
 use mathlib.Core.Logic.{_⊎_}
 use Prim.Native.Nat.{ℕ, _+_, _<_, _≤_}
 use lib.Dec.{eqb, leb, ltb}
-use lib.ListN.{length, getD, set}
+use lib.ListN.{length, take, drop, getD, set, replicate}
 use Rattle.laws.specs.Bytes.{Bytes}
 use Rattle.laws.specs.Numbers.{weight}
+use Rattle.reply.specs.Reply.{answer}
 use Rattle.sector.specs.declared.Address.{Address}
 use Rattle.sector.specs.declared.Judgement.{Judgement}
 use Rattle.sector.specs.declared.Judged.{Judged}
 use Rattle.sector.specs.Address.{valid, next, address-of}
 use Rattle.sector.specs.Sector.{user}
 use Rattle.sector.specs.Judge.{sync-holds, mode-holds, edc-holds, address-holds, judgement, no-facts, good, tarsta-byte, why}
-use Rattle.sector.specs.Calls.{seal-sector, open-sector, judge-answer}
+use Rattle.sector.specs.Calls.{seal-sector, open-sector, judge-answer, parity-reply}
 
 -- an accepted judging with these facts
 abbrev pub verdict : Judgement → Judged
@@ -37,9 +38,26 @@ pub record SealedClaim (s : List ℕ) (a : Address) : Type 0 where
   pub other : (b : Address) → valid b ≡ true → (b ≡ a → ⊥) → judge-answer (open-sector (seal-sector s a)) b ≡ verdict address-alone
   -- opened and sealed again, it is the same
   pub again : seal-sector (open-sector (seal-sector s a)) a ≡ seal-sector s a
+  -- of what lay in the buffer only the user bytes count
+  pub by-user : (t : List ℕ) → length t ≡ 2352 → user t ≡ user s → seal-sector t a ≡ seal-sector s a
+  -- behind the code stand eight zeros, and every parity word holds
+  pub zeros : take 8 (drop 2068 (open-sector (seal-sector s a))) ≡ replicate 8 0
+  pub parity : Bytes s → parity-reply (open-sector (seal-sector s a)) ≡ answer 1
 
 abbrev pub SealClaim : Type 0
 SealClaim = (s : List ℕ) (a : Address) → length s ≡ 2352 → valid a ≡ true → SealedClaim s a
+
+-- The parity check
+
+pub record CheckClaim : Type 0 where
+  -- a changed byte in 12 to 2,351 is detected; the sync bytes do not count
+  pub detected : (s : List ℕ) (k v : ℕ) → parity-reply s ≡ answer 1 → 12 ≤ k → k < 2352 → (v ≡ getD s k 0 → ⊥) → parity-reply (set s k v) ≡ answer 0
+  pub sync-free : (s : List ℕ) (k v : ℕ) → k < 12 → parity-reply (set s k v) ≡ parity-reply s
+  -- of zeros alone the words hold
+  pub zeros : parity-reply (replicate 2352 0) ≡ answer 1
+  -- a good sector, with zeros behind its code, whose words hold is the one that sealing makes of its user bytes
+  pub only : (s : List ℕ) (a : Address) → Bytes s → judge-answer s a ≡ verdict no-facts → take 8 (drop 2068 s) ≡ replicate 8 0
+      → parity-reply s ≡ answer 1 → open-sector (seal-sector s a) ≡ s
 
 -- One changed byte
 
@@ -111,6 +129,7 @@ pub record MetClaim : Type 0 where
   pub address : Address
   pub other : Address
   pub whole : length buffer ≡ 2352
+  pub bytes : Bytes buffer
   pub in-range : valid address ≡ true
   pub in-range-too : valid other ≡ true
   pub apart : other ≡ address → ⊥

@@ -1,8 +1,10 @@
--- A sector of mode 1 and its sealing (ECMA-130, clause 14; paper 01, "Sectors"). Assumes nothing.
+-- A sector of mode 1 and its sealing (ECMA-130, clause 14; paper 01, "Sectors"; paper 02, ask 2). Assumes nothing.
+use mathlib.Core.Bool.{false}
 use mathlib.Core.List.{List, [], _∷_, _++_}
 use Prim.Native.Nat.{ℕ, _/_, _%_}
 use lib.ListN.{take, drop}
 use Rattle.edc.specs.Edc.{edc}
+use Rattle.parity.specs.Parity.{with-parity}
 use Rattle.scramble.specs.Scramble.{scrambled}
 use Rattle.sector.specs.declared.Address.{Address}
 use Rattle.sector.specs.Address.{address-bytes}
@@ -31,10 +33,14 @@ tail e = low4 e ++ 0 ∷ 0 ∷ 0 ∷ 0 ∷ 0 ∷ 0 ∷ 0 ∷ 0 ∷ []
 unfoldable pub body : Address → List ℕ → List ℕ
 body a s = head a ++ user s
 
--- the user bytes of s, and its parity bytes from 2,076 on, in a sector at the address
+-- bytes 0 to 2,075 of a sector at the address, with the user bytes of s
 unfoldable pub framed : Address → List ℕ → List ℕ
-framed a s = body a s ++ (tail (edc 0 (body a s)) ++ drop 2076 s)
+framed a s = body a s ++ tail (edc 0 (body a s))
+
+-- all of it: the parity, from byte 2,076 on, is that of the bytes before it (ECMA-130, Annex A)
+unfoldable pub encoded : Address → List ℕ → List ℕ
+encoded a s = with-parity false (framed a s)
 
 -- the sector as it goes to the disc
 unfoldable pub sealed : Address → List ℕ → List ℕ
-sealed a s = scrambled (framed a s)
+sealed a s = scrambled (encoded a s)

@@ -1,9 +1,10 @@
 // What sealing writes into a sector before it is scrambled.
 ghost use mathlib.Core.Path.{_≡_};
 ghost use mathlib.Core.Bool.{true};
-ghost use lib.ListN.{length};
+ghost use mathlib.Core.List.{_++_};
+ghost use lib.ListN.{length, drop};
 ghost use Rattle.sector.specs.Address.{valid};
-ghost use Rattle.sector.specs.Sector.{head, tail, low4, framed};
+ghost use Rattle.sector.specs.Sector.{head, tail, low4, framed, encoded};
 use super::Address;
 use super::header;
 
@@ -45,14 +46,25 @@ fn tail_of(code: u32) -> [u8; 12]
     [b[0], b[1], b[2], b[3], 0, 0, 0, 0, 0, 0, 0, 0]
 }
 
-// Writes both around the user bytes; the code covers the header, which is written first.
-pub fn put(sector: &mut [u8], address: Address)
+// Writes head and tail around the user bytes; the code covers the header, which is written first.
+fn put_frame(sector: &mut [u8], address: Address)
     requires { ⌜ length (now sector) ≡ 2352 ⌝ }
     requires { ⌜ valid address ≡ true ⌝ }
-    ensures { λ _. ⌜ now (sector .exit) ≡ framed address (now (sector .entry)) ⌝ }
+    ensures { λ _. ⌜ now (sector .exit) ≡ framed address (now (sector .entry)) ++ drop 2076 (now (sector .entry)) ⌝ }
 {
     let head = head_of(address);
     bytes::copy(&head, sector);
     let tail = tail_of(edc::edc(&sector[..2064]));
     bytes::copy(&tail, &mut sector[2064..]);
+}
+
+// Writes all that a sector has around its user bytes: the parity covers what stands before it, and is written last.
+// Ruled out: one that leaves the parity bytes that lay there, and one that takes the header as zeros.
+pub fn put(sector: &mut [u8], address: Address)
+    requires { ⌜ length (now sector) ≡ 2352 ⌝ }
+    requires { ⌜ valid address ≡ true ⌝ }
+    ensures { λ _. ⌜ now (sector .exit) ≡ encoded address (now (sector .entry)) ⌝ }
+{
+    put_frame(sector, address);
+    parity::write(sector, false);
 }

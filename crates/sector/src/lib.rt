@@ -1,17 +1,19 @@
-// Sectors of mode 1 (ECMA-130, clause 14; paper 01, "Sectors"): sealing user data at an address, opening a sector, judging an opened
-// one, and receiving one from the disc. The first three are total: each answers every input with a reply number, and a refusal changes no byte.
+// Sectors of mode 1 (ECMA-130, clause 14; paper 01, "Sectors"): sealing user data at an address, opening a sector, judging an opened one and
+// checking its parity, and receiving one from the disc. All but the last are total: each answers every input with a reply number, and a refusal
+// changes no byte.
 ghost use mathlib.Core.Path.{_≡_};
 ghost use mathlib.Core.Bool.{true};
 ghost use lib.ListN.{length};
 ghost use Rattle.sector.specs.Address.{valid};
 ghost use Rattle.sector.specs.Receive.{received};
-ghost use Rattle.sector.specs.Calls.{seal-reply, seal-sector, open-reply, open-sector, refused, judge-answer};
+ghost use Rattle.sector.specs.Calls.{seal-reply, seal-sector, open-reply, open-sector, refused, judge-answer, parity-reply};
 
 mod checks;
 mod facts;
 mod frame;
 mod header;
 
+use numbers::weight;
 use reply::Reply;
 use reply::answer;
 use reply::refuse;
@@ -40,7 +42,8 @@ pub struct Judged {
     pub judgement: Judgement,
 }
 
-// Seals a buffer at an address where it lies: bytes 0 to 15, the EDC and the zeros after it are written, then all is scrambled.
+// Seals a buffer at an address where it lies: bytes 0 to 15, and the EDC, zeros and parity behind the user bytes are written, then all is
+// scrambled. Of what lay there only the user bytes count.
 // Ruled out: one that writes and then refuses the address, and one that takes the EDC before the header is written.
 pub fn seal(sector: &mut [u8], address: Address) -> Reply
     ensures { λ r. ⌜ (r ≡ seal-reply (now (sector .entry)) address) × (now (sector .exit) ≡ seal-sector (now (sector .entry)) address) ⌝ }
@@ -92,6 +95,18 @@ pub fn judge(sector: &[u8], address: Address) -> Judged
         number: 0,
         judgement,
     }
+}
+
+// Checks the parity of an opened sector: 1 if every word holds.
+// Ruled out: one that answers 1 for yes as its number, and one that takes the header as zeros.
+pub fn check_parity(sector: &[u8]) -> Reply
+    ensures { λ r. ⌜ r ≡ parity-reply (now (sector .entry)) ⌝ }
+{
+    if sector.len() != LENGTH {
+        return refuse(1);
+    }
+    let holds = parity::check(sector, false);
+    answer(weight(holds, 1))
 }
 
 // Receives a sector from the disc: it is descrambled into the block, and judged there. The sector is only read, and no copy is made.

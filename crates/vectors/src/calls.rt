@@ -12,12 +12,11 @@ pub(crate) fn put(buffer: &mut [u8], at: usize, part: &[u8]) {
     bytes::copy(part, &mut buffer[at..]);
 }
 
-// Sealing gives the scrambled sector, from a buffer that holds its user and parity bytes and nothing else of it.
-pub(crate) fn seals(user: &[u8], parity: &[u8], address: Address, scrambled: &[u8]) -> bool {
+// Sealing gives the scrambled sector, from a buffer that holds its user bytes and nothing else of it.
+pub(crate) fn seals(user: &[u8], address: Address, scrambled: &[u8]) -> bool {
     let mut space = [0xa5u8; 2352];
     let buffer: &mut [u8] = &mut space;
     put(buffer, 16, user);
-    put(buffer, 2076, parity);
     let reply = sector::seal(buffer, address);
     reply.number == 0 && reply.result == 0 && check::same(buffer, scrambled)
 }
@@ -36,4 +35,10 @@ pub(crate) fn judges(plain: &[u8], address: Address, why: u16) -> bool {
     let judged = sector::judge(plain, address);
     let facts = judged.judgement;
     judged.number == 0 && facts.why() == why
+}
+
+// The parity check says yes (1) or no (0).
+pub(crate) fn says(plain: &[u8], yes: u16) -> bool {
+    let reply = sector::check_parity(plain);
+    reply.number == 0 && reply.result == yes
 }

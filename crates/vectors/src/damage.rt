@@ -25,7 +25,7 @@ fn address_bytes(plain: &[u8], address: Address, why: u16) -> bool {
     ends(plain, 12, 14, address, why) && changed(plain, 13, address, why)
 }
 
-// The EDC (2) covers sync (8), address (1) and mode (4) too. The zeros after it and the parity are not judged.
+// The EDC (2) covers sync (8), address (1) and mode (4) too. The zeros after it and the parity are not judged; the parity check tells them.
 pub(crate) fn checks(plain: &[u8], address: Address, t: Tally) -> Tally {
     let a = t.check(b" sync", ends(plain, 0, 11, address, 8 + 2));
     let b = a.check(b" address", address_bytes(plain, address, 2 + 1));

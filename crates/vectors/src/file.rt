@@ -20,6 +20,7 @@ struct Reading {
     tally: Tally,
     records: u32,
     mode1: u32,
+    form1: u32,
     goes_on: bool,
 }
 
@@ -56,32 +57,35 @@ fn failure(words: &[u8], t: Tally) -> Tally {
     u
 }
 
-// One record more, run if its kind is 1, mode 1.
+// Nothing more is read.
+fn ended(tally: Tally, r: Reading) -> Reading {
+    Reading {
+        tally,
+        records: r.records,
+        mode1: r.mode1,
+        form1: r.form1,
+        goes_on: false,
+    }
+}
+
+// One record more, run by its kind: 1 is mode 1, and 2 is mode 2, form 1.
 fn take(bytes: &[u8], r: Reading) -> Reading {
     let t = r.tally;
     if bytes.len() != 7052 {
-        return Reading {
-            tally: failure(b" whole records", t),
-            records: r.records,
-            mode1: r.mode1,
-            goes_on: false,
-        };
+        return ended(failure(b" whole records", t), r);
     }
-    let records = std::num::wrapping_add_u32(r.records, 1);
-    if bytes[0] != 1 {
-        return Reading {
-            tally: t,
-            records,
-            mode1: r.mode1,
-            goes_on: true,
-        };
+    let number = r.records;
+    let mut next = r;
+    next.records = std::num::wrapping_add_u32(number, 1);
+    if bytes[0] == 1 {
+        next.tally = record::checks(number, bytes, t);
+        next.mode1 = std::num::wrapping_add_u32(next.mode1, 1);
     }
-    Reading {
-        tally: record::checks(r.records, bytes, t),
-        records,
-        mode1: std::num::wrapping_add_u32(r.mode1, 1),
-        goes_on: true,
+    if bytes[0] == 2 {
+        next.tally = record::form1_checks(number, bytes, t);
+        next.form1 = std::num::wrapping_add_u32(next.form1, 1);
     }
+    next
 }
 
 fn read_one(fd: i32, r: Reading) -> Reading {
@@ -96,6 +100,7 @@ fn read_all(fd: i32, count: u32, t: Tally) -> Reading {
         tally: t,
         records: 0,
         mode1: 0,
+        form1: 0,
         goes_on: true,
     };
     let mut left = count;
@@ -113,8 +118,11 @@ fn records(fd: i32, count: u32, t: Tally) -> Tally {
     tally::text(b" records, ");
     tally::number(r.mode1);
     let u = r.tally.check(b" of mode 1", r.mode1 > 0);
+    tally::text(b", ");
+    tally::number(r.form1);
+    let v = u.check(b" of form 1", r.form1 > 0);
     tally::text(b"\n");
-    u
+    v
 }
 
 fn run(fd: i32, header: Header, t: Tally) -> Tally {

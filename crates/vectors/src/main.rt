@@ -1,5 +1,5 @@
 // Runs vectors from outside for the sectors of ECMA-130 through the library and compares: published values, what the calls refuse,
-// and the records of mode 1 of the file sectors.bin. Behind each check stands `ok` or `FAILED`, and the last line counts them.
+// the records of mode 1 of the file sectors.bin, and the parity of those of mode 2, form 1. Behind each check stands `ok` or `FAILED`, and the last line counts them.
 mod calls;
 mod damage;
 mod fields;
@@ -8,6 +8,7 @@ mod published;
 mod record;
 mod refusals;
 mod tally;
+mod words;
 
 fn main() {
     let none = tally::Tally::new();

@@ -1,5 +1,5 @@
 // One record of mode 1. Its parts: the absolute frame from byte 8, the EDC from 20, the user bytes from 24, the plain sector from
-// 2,348 (what the EDC covers ends at 4,412, the parity begins at 4,424), and the scrambled sector from 4,700 to its end, 7,052.
+// 2,348 (what the EDC covers ends at 4,412), and the scrambled sector from 4,700 to its end, 7,052.
 ghost use mathlib.Core.Path.{_≡_};
 ghost use lib.ListN.{length};
 use super::calls;
@@ -7,6 +7,7 @@ use super::damage;
 use super::fields;
 use super::tally;
 use super::tally::Tally;
+use super::words;
 use sector::Address;
 
 // 75 frames are a second. The file gives the address in BCD too, which sealing has to find by itself.
@@ -39,12 +40,13 @@ fn compare(bytes: &[u8], frames: u32, t: Tally) -> Tally
     let plain = &bytes[2348..4700];
     let scrambled = &bytes[4700..];
     let code = edc::edc(&bytes[2348..4412]);
-    let sealed = calls::seals(&bytes[24..2072], &bytes[4424..4700], address, scrambled);
+    let sealed = calls::seals(&bytes[24..2072], address, scrambled);
     let a = t.check(b" edc", code == fields::word(&bytes[20..24]));
     let b = a.check(b" sealed", sealed);
     let c = b.check(b" opened", calls::opens(scrambled, plain));
     let d = c.check(b" judged", calls::judges(plain, address, 0));
-    d.check(b" next", calls::judges(plain, next, 1))
+    let e = d.check(b" next", calls::judges(plain, next, 1));
+    e.check(b" parity", calls::says(plain, 1))
 }
 
 // The two lines of the record `number` of the file.
@@ -59,6 +61,18 @@ pub(crate) fn checks(number: u32, bytes: &[u8], t: Tally) -> Tally
     heading(number, address);
     tally::text(b" damaged");
     let v = damage::checks(&bytes[2348..4700], address, u);
+    let w = words::checks(&bytes[2348..4700], false, v);
     tally::text(b"\n");
-    v
+    w
+}
+
+// The line of a record of mode 2, form 1, whose parity takes the header as zeros.
+pub(crate) fn form1_checks(number: u32, bytes: &[u8], t: Tally) -> Tally
+    requires { ⌜ length (now bytes) ≡ 7052 ⌝ }
+{
+    heading(number, address_of(fields::word(&bytes[8..12])));
+    tally::text(b" form 1");
+    let u = words::checks(&bytes[2348..4700], true, t);
+    tally::text(b"\n");
+    u
 }

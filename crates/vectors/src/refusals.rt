@@ -35,8 +35,9 @@ fn is_refused_length(sector: &mut [u8], before: &[u8]) -> bool {
         frame: 0,
     };
     let opened = is_refusal(sector::open(sector), 1);
+    let parity = is_refusal(sector::check_parity(sector), 1);
     let good = refused_by(sector, before, START, 1);
-    opened && good && refused_by(sector, before, bad, 1)
+    opened && parity && good && refused_by(sector, before, bad, 1)
 }
 
 fn wrong_length(length: usize) -> bool {

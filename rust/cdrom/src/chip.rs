@@ -45,8 +45,8 @@ impl<'ring> Chip<'ring> {
     /// A chip that was kept by [`record`](Chip::record), to go on over the same memory.
     ///
     /// The memory must hold what it held when the record was kept: a record over other bytes serves blocks that were
-    /// never read. Where it may be lost, [`open`](Chip::open) anew; and also where the record was kept under another
-    /// [`VERSION`](crate::VERSION), since its words meant something else. A record that was damaged meanwhile may be
+    /// never read. Where it may be lost, [`open`](Chip::open) anew; and also where the record was kept under
+    /// [`VERSION`](crate::VERSION) 1, since its words meant something else. A record that was damaged meanwhile may be
     /// unsound: every call then answers [`WrongLength`](Refusal::WrongLength), and a look is empty. Memory of another
     /// length is refused by the calls that touch it.
     pub fn from_record(record: Record, ring: &'ring mut [u8]) -> Chip<'ring> {

@@ -91,9 +91,10 @@ mod sectors;
 pub use bench::{bench, ANSWER_ROOM, RING_BYTES};
 pub use chip::{Chip, Record, BLOCK_BYTES, LEAST_BLOCKS, MOST_BLOCKS};
 pub use refusal::Refusal;
-pub use sectors::{edc, judge, open, seal, Address, Facts, Verdict, SECTOR_BYTES, USER_BYTES, USER_OFFSET};
+pub use sectors::{edc, judge, open, parity, seal, Address, Facts, Verdict, SECTOR_BYTES, USER_BYTES, USER_OFFSET};
 pub use sectors::{WHY_ADDRESS, WHY_EDC, WHY_MODE, WHY_SYNC};
 
-/// The version of `include/cdrom.h` that this crate declares. Since 2 [`judge`] gives [`Facts`] and [`Chip::why`] those
-/// of the last sector, and a [`Record`] that was kept under 1 must not be handed over.
-pub const VERSION: u32 = 2;
+/// The version of `include/cdrom.h` that this crate declares. Since 3 [`seal`] writes the parity, and [`parity`] checks
+/// it. Since 2 [`judge`] gives [`Facts`] and [`Chip::why`] those of the last sector, and a [`Record`] that was kept
+/// under 1 must not be handed over.
+pub const VERSION: u32 = 3;

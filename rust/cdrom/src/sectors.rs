@@ -1,4 +1,4 @@
-//! Sectors of mode 1 (ECMA-130) without a chip: made, opened and judged.
+//! Sectors of mode 1 (ECMA-130) without a chip: made, opened, judged, and their parity checked.
 
 use crate::raw;
 use crate::refusal::{done, result_of, Refusal};
@@ -140,7 +140,9 @@ impl Verdict {
     }
 }
 
-/// Makes the buffer a scrambled sector; user and parity bytes stay.
+/// Makes the buffer a scrambled sector of the user bytes that are in it. All other bytes are written, whatever was
+/// there: sync, address, mode, error detection code, zeros, and the P and Q parity of ECMA-130 Annex A. A sealed sector
+/// that is opened and sealed again at its address is the same, byte for byte.
 ///
 /// Refusals: [`WrongLength`](Refusal::WrongLength), [`OutOfRange`](Refusal::OutOfRange) for the address.
 pub fn seal(sector: &mut [u8], address: Address) -> Result<(), Refusal> {
@@ -167,6 +169,40 @@ pub fn judge(sector: &[u8], expected: Address) -> Result<Facts, Refusal> {
     // SAFETY: as in `seal`; the call only reads.
     let answer = unsafe { raw::cdrom_judge(sector.as_ptr(), sector.len(), minute, second, frame) };
     result_of(answer).map(Facts::of_result)
+}
+
+/// Whether the parity of an opened sector holds, all 43 P words and 26 Q words in each of two byte planes (ECMA-130
+/// Annex A).
+///
+/// It is none of the [`Facts`]. A good sector may have wrong parity, since [`judge`] does not look at bytes 2,068 to
+/// 2,351, and a bad one right parity: it holds for 2,352 zeros. The words are those of mode 1, whatever the mode byte.
+/// They cover bytes 12 to 2,351, and not the sync bytes: where all hold, a change of any one covered byte is told.
+///
+/// ```
+/// # fn main() -> Result<(), cdrom::Refusal> {
+/// let place = cdrom::Address { minute: 0, second: 2, frame: 0 };
+/// let mut sector = [b'A'; cdrom::SECTOR_BYTES];
+/// cdrom::seal(&mut sector, place)?;
+/// cdrom::open(&mut sector)?;
+/// assert!(cdrom::parity(&sector)?);
+/// sector[2351] ^= 1;
+/// assert!(!cdrom::parity(&sector)?);
+/// assert!(cdrom::judge(&sector, place)?.is_good());
+/// # Ok(())
+/// # }
+/// ```
+///
+/// Refusals: [`WrongLength`](Refusal::WrongLength).
+pub fn parity(sector: &[u8]) -> Result<bool, Refusal> {
+    // SAFETY: as in `judge`.
+    let answer = unsafe { raw::cdrom_parity(sector.as_ptr(), sector.len()) };
+    result_of(answer).map(is_yes)
+}
+
+/// A result that is 1 for yes and 0 for no.
+fn is_yes(result: u32) -> bool {
+    assert!(result <= 1, "{result:#x} is neither yes nor no");
+    result == 1
 }
 
 /// The error detection code of any number of bytes.
@@ -272,11 +308,23 @@ mod tests {
             assert_eq!(seal(&mut sector[..length], ADDRESS), Err(Refusal::WrongLength));
             assert_eq!(open(&mut sector[..length]), Err(Refusal::WrongLength));
             assert_eq!(judge(&sector[..length], ADDRESS), Err(Refusal::WrongLength));
+            assert_eq!(parity(&sector[..length]), Err(Refusal::WrongLength));
         }
         let no_address = Address { second: 60, ..ADDRESS };
         assert_eq!(seal(&mut sector[..SECTOR_BYTES], no_address), Err(Refusal::OutOfRange));
         assert_eq!(judge(&sector[..SECTOR_BYTES], no_address), Err(Refusal::OutOfRange));
         assert_eq!(sector, [0; SECTOR_BYTES + 1]);
+    }
+
+    #[test]
+    fn yes_and_no() {
+        assert_eq!([0, 1].map(is_yes), [false, true]);
+    }
+
+    #[test]
+    #[should_panic(expected = "neither yes nor no")]
+    fn another_result_than_yes_and_no_is_a_fault() {
+        is_yes(2);
     }
 
     #[test]

@@ -1,7 +1,8 @@
-//! What happened to scratches and to the facts of sectors. A scratch shows only in the sector that
-//! suffers it, so that what it has outlasted is counted there.
+//! What happened to scratches, to the facts of sectors and to their parity. A scratch shows only in the
+//! sector that suffers it, so that what it has outlasted is counted there.
 
 use super::{Happenings, Step};
+use ecma130::{P_PARITY_START, Q_PARITY_START, SECTOR_BYTES};
 use model::Call;
 use std::collections::{BTreeMap, BTreeSet};
 use std::ops::Range;
@@ -11,7 +12,7 @@ const JUDGED: usize = 2068;
 const MINUTE_PLACE: usize = 12;
 
 /// All that is counted here.
-pub const NAMES: [&str; 50] = [
+pub const NAMES: [&str; 55] = [
     "sector stored, why 0",
     "sector stored, why 1",
     "sector stored, why 2",
@@ -62,6 +63,11 @@ pub const NAMES: [&str; 50] = [
     "scratch kept over a sector refused (8)",
     "scratch kept over a sector refused (9)",
     "scratch kept over a malformed line",
+    "word of P parity, not 0",
+    "word of Q parity, not 0",
+    "word of a zero and the first byte of P parity, not 0",
+    "word of P and Q parity, not 0",
+    "all parity of a block handed over",
 ];
 
 #[derive(Default)]
@@ -130,7 +136,7 @@ impl Happenings {
                 self.disc = Disc::default();
                 self.disc.gone = (!step.scratch.is_none()).then_some("scratch gone by an opening");
             }
-            Some(Call::Word) if step.answer == 0 => self.note_inverted_word(step),
+            Some(Call::Word) if step.answer == 0 => self.note_word_of_block(step),
             _ => {}
         }
         if let (false, Some(what)) = (step.scratch.is_none(), outlasted_name(step)) {
@@ -179,14 +185,27 @@ impl Happenings {
         self.disc.inverted.insert(before.b, inverted);
     }
 
-    fn note_inverted_word(&mut self, step: &Step) {
+    fn note_word_of_block(&mut self, step: &Step) {
         let Some((chip, transfer)) = step.before.and_then(|chip| Some((chip, chip.transfer?))) else {
             return;
         };
-        let place = chip.window.offset + 2 * transfer.place;
+        let (window, place) = (chip.window, chip.window.offset + 2 * transfer.place);
         let inverted = self.disc.inverted.get(&chip.t).cloned().unwrap_or_default();
         let met = inverted.contains(&place) || inverted.contains(&(place + 1));
         self.count_if(met, "word handed over with an inverted byte");
+        if step.out != 0 && !met {
+            self.note_parity_word(place);
+        }
+        let whole = window.offset <= P_PARITY_START && place + 2 == SECTOR_BYTES;
+        self.count_if(whole, "all parity of a block handed over");
+    }
+
+    /// A word that is as it was sealed.
+    fn note_parity_word(&mut self, place: usize) {
+        self.count_if((P_PARITY_START..Q_PARITY_START - 1).contains(&place), "word of P parity, not 0");
+        self.count_if(place >= Q_PARITY_START, "word of Q parity, not 0");
+        self.count_if(place + 1 == P_PARITY_START, "word of a zero and the first byte of P parity, not 0");
+        self.count_if(place + 1 == Q_PARITY_START, "word of P and Q parity, not 0");
     }
 }
 

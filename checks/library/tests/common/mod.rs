@@ -32,6 +32,12 @@ pub fn judge(sector: &[u8], expected: Address) -> Result<Facts, Refusal> {
     answer
 }
 
+pub fn parity(sector: &[u8]) -> Result<bool, Refusal> {
+    let answer = cdrom::parity(sector);
+    assert_eq!(answer, ecma130::parity_holds(sector, false).map_err(refusal));
+    answer
+}
+
 pub fn valid_address(random: &mut Random) -> Address {
     Address::new(random.between(0, 99), random.between(0, 59), random.between(0, 74))
 }

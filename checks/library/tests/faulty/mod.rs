@@ -61,4 +61,12 @@ impl Library for Faulty<'_> {
     fn judge(&mut self, sector: &mut [u8], expected: Address) -> Answer {
         StandIn.judge(sector, expected)
     }
+
+    fn seal(&mut self, sector: &mut [u8], address: Address) -> Answer {
+        StandIn.seal(sector, address)
+    }
+
+    fn parity(&mut self, sector: &mut [u8]) -> Answer {
+        StandIn.parity(sector)
+    }
 }

@@ -14,8 +14,8 @@ use crate::call::Call;
 use crate::chip::Chip;
 use ecma130::Address;
 
-/// Where a field of a sector begins: sync, address, mode, user bytes, EDC, zeros, parity; and the end.
-const EDGES: [u16; 8] = [0, 12, 15, 16, 2064, 2068, 2076, 2352];
+/// Where a field of a sector begins: sync, address, mode, user bytes, EDC, zeros, P parity, Q parity; and the end.
+const EDGES: [u16; 9] = [0, 12, 15, 16, 2064, 2068, 2076, 2248, 2352];
 
 /// What is judged of a sector ends here.
 const JUDGED: u16 = 2068;

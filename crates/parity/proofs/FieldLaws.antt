@@ -11,31 +11,39 @@ use Rattle.parity.specs.Field.{times-x, product-bits, product, power}
 
 -- Times x
 
+-- the polynomial k may be any for the one, and for the other is 11Dh
+moved-xor : (k a b : ℕ) → bitXor (bitXor a b * 2) (bitXor a b / 128 % 2 * k) ≡ bitXor (bitXor (a * 2) (a / 128 % 2 * k)) (bitXor (b * 2) (b / 128 % 2 * k))
+moved-xor k a b =
+    ap₂ bitXor (double-xor a b) (ap (λ (d : ℕ). d * k) (bit-xor 7 a b) ∙ times _ _ k (odd-lt (a / 128)) (odd-lt (b / 128)))
+    ∙ xor-four (a * 2) (b * 2) (a / 128 % 2 * k) (b / 128 % 2 * k)
+
 pub times-x-xor : (a b : ℕ) → times-x (bitXor a b) ≡ bitXor (times-x a) (times-x b)
 unfolding times-x
-times-x-xor a b =
-    ap₂ bitXor (double-xor a b) (ap (λ (d : ℕ). d * 0x11D) (bit-xor 7 a b) ∙ times _ _ 0x11D (odd-lt (a / 128)) (odd-lt (b / 128)))
-    ∙ xor-four (a * 2) (b * 2) (a / 128 % 2 * 0x11D) (b / 128 % 2 * 0x11D)
+times-x-xor a b = moved-xor _ a b
 
 pub times-x-zero : times-x 0 ≡ 0
 unfolding times-x
 times-x-zero = refl
 
--- within a byte the two parts are bytes
-pub times-x-byte : (a : ℕ) → a < 256 → times-x a ≡ bitXor (a % 128 * 2) (a / 128 * 29)
-unfolding times-x
-times-x-byte a h =
-    ap₂ bitXor low high ∙ xor-block 8 (a / 128) (a / 128) (a % 128 * 2) (a / 128 * 29) (omega arith) (omega arith)
+moved-byte : (k a : ℕ) → k ≡ 256 + 29 → a < 256 → bitXor (a * 2) (a / 128 % 2 * k) ≡ bitXor (a % 128 * 2) (a / 128 * 29)
+moved-byte k a e h =
+    ap₂ bitXor low (ap (λ (x : ℕ). a / 128 % 2 * x) e ∙ high)
+    ∙ xor-block 8 (a / 128) (a / 128) (a % 128 * 2) (a / 128 * 29) (omega arith) (omega arith)
     ∙ ap (λ (x : ℕ). x * 256 + bitXor (a % 128 * 2) (a / 128 * 29)) (xor-self (a / 128)) ∙ none
   where
     low : a * 2 ≡ a / 128 * 256 + a % 128 * 2
     low = omega arith
 
-    high : a / 128 % 2 * 0x11D ≡ a / 128 * 256 + a / 128 * 29
+    high : a / 128 % 2 * (256 + 29) ≡ a / 128 * 256 + a / 128 * 29
     high = omega arith
 
     none : 0 * 256 + bitXor (a % 128 * 2) (a / 128 * 29) ≡ bitXor (a % 128 * 2) (a / 128 * 29)
     none = omega arith
+
+-- within a byte the two parts are bytes
+pub times-x-byte : (a : ℕ) → a < 256 → times-x a ≡ bitXor (a % 128 * 2) (a / 128 * 29)
+unfolding times-x
+times-x-byte a h = moved-byte _ a refl h
 
 pub times-x-lt : (a : ℕ) → a < 256 → times-x a < 256
 times-x-lt a h = subst⁻¹ (λ (x : ℕ). x < 256) (times-x-byte a h) (xor-lt 8 (a % 128 * 2) (a / 128 * 29) (omega arith) (omega arith))

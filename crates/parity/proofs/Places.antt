@@ -23,7 +23,7 @@ p-place v m = omega arith
 pub q-tail : (v m : ℕ) → 43 ≤ m → place q v m ≡ 2248 + 52 * (m - 43) + v
 unfolding q
 q-tail v m h =
-    ap (λ (x : ℕ). 12 + 2 * x + v % 2) (if-false (ltb m 43) ((44 * m + 43 * (v / 2)) % 1118) (1118 + 26 * (m - 43) + v / 2) (le-ltb m 43 h)) ∙ omega arith
+    ap (λ (x : ℕ). 12 + 2 * x + v % 2) (if-false (ltb m 43) _ (1118 + 26 * (m - 43) + v / 2) (le-ltb m 43 h)) ∙ omega arith
 
 q-data : (v m : ℕ) → m < 43 → place q v m ≡ 12 + 2 * ((44 * m + 43 * (v / 2)) % 1118) + v % 2
 unfolding q

@@ -164,8 +164,8 @@ static int facts_differ(void)
 
 static int registers_differ(void)
 {
-    static const uint16_t registers[] = {CDROM_TCC,   CDROM_BUFC,   CDROM_TARSTA, CDROM_TBL,   CDROM_LDDBL, CDROM_STATUS,
-                                         CDROM_MBTC0, CDROM_ASCTRL, CDROM_BICCTL, CDROM_ACCTL, CDROM_TTC};
+    static const uint16_t registers[] = {CDROM_TCC,    CDROM_BUFC,   CDROM_TARSTA, CDROM_TBL, CDROM_LDDBL, CDROM_STATUS, CDROM_MBTC0,
+                                         CDROM_ASCTRL, CDROM_BICCTL, CDROM_ACCTL,  CDROM_TTC, CDROM_ATBLO, CDROM_ATBHI};
     for (size_t place = 0; place < sizeof registers / sizeof registers[0]; place++) {
         char what[40];
         snprintf(what, sizeof what, "register %02Xh after it", registers[place]);
@@ -178,7 +178,24 @@ static int registers_differ(void)
 /* -- What happened ------------------------------------------------------------------------------------------------------------- */
 
 /* The sectors that were taken come first, by their why. */
-enum { LAST = 16, RESTARTS, SKIPS, STARTS, LONG_STARTS, WORDS, TAKEN, AROUND, ENDED, ABORTS, LOOKS, REFUSED };
+enum {
+    LAST = 16,
+    RESTARTS,
+    SKIPS,
+    STARTS,
+    TELLING_STARTS,
+    LONG_STARTS,
+    CUT_STARTS,
+    LOWERED_STARTS,
+    WORDS,
+    TAKEN,
+    AROUND,
+    ENDED,
+    BOUND_ENDED,
+    ABORTS,
+    LOOKS,
+    REFUSED
+};
 static const char *const names[] = {"good sectors",
                                     "sectors with why=1: address",
                                     "sectors with why=2: EDC",
@@ -199,11 +216,15 @@ static const char *const names[] = {"good sectors",
                                     "restarts after a bad sector",
                                     "skips of blocks",
                                     "starts",
+                                    "starts with STWCEN, which set the byte count",
                                     "starts of 32 blocks with ATLIM 0",
+                                    "starts that the byte bound cut, TTC set",
+                                    "starts whose MBC it lowered, TTC 0",
                                     "words",
                                     "blocks taken",
                                     "times around the ring",
                                     "transfers ended",
+                                    "transfers ended that the byte bound had cut",
                                     "aborts within a block",
                                     "looks with bytes",
                                     "refusals with 1",
@@ -217,9 +238,11 @@ static const char *const names[] = {"good sectors",
                                     "refusals with 9, at the stop"};
 #define HAPPENINGS (sizeof names / sizeof names[0])
 static uint64_t happened[HAPPENINGS];
+/* The last start had fewer blocks than were asked for. */
+static int is_bound;
 
 struct state {
-    unsigned t, tcc;
+    unsigned t, tcc, mbc;
     int held, is_running;
     uint16_t place;
 };
@@ -229,20 +252,34 @@ static struct state state_now(void)
     return (struct state){
         .t = standing(&library.chip, CDROM_TBL),
         .tcc = standing(&library.chip, CDROM_TCC),
+        .mbc = standing(&library.chip, CDROM_MBTC0),
         .held = writer.held,
         .is_running = (standing(&library.chip, CDROM_STATUS) & CDROM_DRQ) != 0,
         .place = writer.place,
     };
 }
 
+/* Of a start the byte bound shows with TTC in fewer blocks than ATLIM, TCC and TTC allow, and without in an MBC that was lowered. */
+static void count_start(struct state before, struct state after)
+{
+    unsigned atlim = standing(&library.chip, CDROM_ACCTL) & CDROM_ATLIM, ttc = standing(&library.chip, CDROM_TTC);
+    unsigned blocks = after.mbc + 1;
+    int is_cut = blocks < (atlim == 0 ? 32 : atlim) && blocks < after.tcc && blocks < ttc;
+    int is_lowered = ttc == 0 && after.mbc < before.mbc;
+    is_bound = is_cut || is_lowered;
+    happened[STARTS]++;
+    happened[TELLING_STARTS] += (standing(&library.chip, CDROM_ASCTRL) & CDROM_STWCEN) != 0;
+    happened[LONG_STARTS] += blocks == 32 && atlim == 0 && ttc > 0;
+    happened[CUT_STARTS] += is_cut;
+    happened[LOWERED_STARTS] += is_lowered;
+}
+
 static void count_write(struct call call, struct state before, struct state after)
 {
-    int is_start = !before.is_running && after.is_running;
-    int is_unlimited = (standing(&library.chip, CDROM_ACCTL) & CDROM_ATLIM) == 0 && standing(&library.chip, CDROM_TTC) > 0;
     happened[RESTARTS] += call.one == CDROM_CTRL0 && before.held && !after.held;
     happened[SKIPS] += call.one == CDROM_SKIPC && after.tcc < before.tcc;
-    happened[STARTS] += is_start;
-    happened[LONG_STARTS] += is_start && is_unlimited && standing(&library.chip, CDROM_MBTC0) == 31;
+    if (!before.is_running && after.is_running)
+        count_start(before, after);
 }
 
 static void count_sector(struct call call)
@@ -255,7 +292,7 @@ static void count_sector(struct call call)
 static void count(struct call call, struct outcome outcome, struct state before, struct state after)
 {
     uint32_t number = CDROM_NUMBER(outcome.answer);
-    int is_word = call.kind == WORD || call.kind == BURST;
+    int is_word = call.kind == WORD || call.kind == BURST, is_end = is_word && before.is_running && !after.is_running;
     if (number != CDROM_DONE) {
         happened[REFUSED + number - 1]++;
         return;
@@ -267,7 +304,8 @@ static void count(struct call call, struct outcome outcome, struct state before,
     happened[WORDS] += call.kind == WORD ? 1 : call.kind == BURST ? outcome.length / 2 : 0;
     happened[TAKEN] += is_word ? before.tcc - after.tcc : 0;
     happened[AROUND] += after.t < before.t;
-    happened[ENDED] += is_word && before.is_running && !after.is_running;
+    happened[ENDED] += is_end;
+    happened[BOUND_ENDED] += is_end && is_bound;
     happened[ABORTS] += call.kind == SRST && before.place > 0;
     happened[LOOKS] += call.kind == LOOK && outcome.length > 0;
 }

@@ -7,6 +7,9 @@
 #define ADDRESS_OFFSET 12
 #define MODE_OFFSET 15
 #define CODE_OFFSET (CDROM_USER_OFFSET + CDROM_USER_BYTES)
+/* So many good blocks are enough for a start that is bound by its bytes: 27 of 1,176 words. */
+#define MANY_BLOCKS 27
+#define FEW_WORDS 3000
 
 unsigned standing(cdrom_chip *chip, uint16_t reg)
 {
@@ -49,10 +52,12 @@ static uint16_t pick(struct writer *writer, const uint16_t *choices, size_t coun
 
 /* -- Calls --------------------------------------------------------------------------------------------------------------------- */
 
+/* Small rings, which are soon gone around; rings that are full with about as many blocks as a start may have, 28 to 33; and others. */
 uint16_t draw_ring(struct writer *writer)
 {
-    uint16_t most = PICK(writer, 5, 10, 100, CDROM_MOST_BLOCKS);
-    writer->blocks = (uint16_t)(CDROM_LEAST_BLOCKS + draw_below(writer, (uint16_t)(most - CDROM_LEAST_BLOCKS + 1)));
+    static const uint16_t ranges[][2] = {{CDROM_LEAST_BLOCKS, 5}, {28, 33}, {6, 12}, {34, 70}, {13, CDROM_MOST_BLOCKS}};
+    const uint16_t *range = ranges[draw_below(writer, sizeof ranges / sizeof ranges[0])];
+    writer->blocks = (uint16_t)(range[0] + draw_below(writer, (uint16_t)(range[1] - range[0] + 1)));
     writer->minute = writer->frame = writer->window_words = writer->place = 0;
     writer->second = 2;
     writer->decen = writer->held = writer->is_stopped = 0;
@@ -68,18 +73,19 @@ static struct call write_call(uint16_t reg, uint16_t value)
 /* Numbers in range and just past it. */
 static struct call blind_call(struct writer *w)
 {
-    switch (draw_below(w, 12)) {
+    switch (draw_below(w, 13)) {
     case 0: return (struct call){.kind = OPEN, .one = PICK(w, 0, 2, 3, 255, 256, 65535)};
     case 1: return write_call(CDROM_CTRL0, PICK(w, 0, 1, 0x80, 0x81, 0x100));
     case 2: return write_call(CDROM_MBTC0, PICK(w, 0, 1, 31, 32, 256));
     case 3: return write_call(CDROM_ASTRG, PICK(w, 0, CDROM_ADTT, CDROM_ADTT | CDROM_SCT, 0x100));
-    case 4: return write_call(CDROM_ASCTRL, PICK(w, 0, CDROM_ADCEN, CDROM_ASCEN, 0x02, 0x100));
+    case 4: return write_call(CDROM_ASCTRL, PICK(w, 0, CDROM_ADCEN, CDROM_STWCEN, CDROM_ASCEN, 0x02, 0x100));
     case 5: return write_call(CDROM_BICCTL, PICK(w, 0, 0x10, 0x20, 0x30, 0x40, 0x120));
     case 6: return write_call(CDROM_BUFLIM, PICK(w, 0, 1, (uint16_t)(w->blocks - 2), (uint16_t)(w->blocks - 1), 256));
     case 7: return write_call(CDROM_ACCTL, PICK(w, 0, CDROM_ACMEN, CDROM_TCINCEN, CDROM_ACMEN | CDROM_TCINCEN, 0x160));
     case 8: return write_call(PICK(w, CDROM_SKIPC, CDROM_TTC), PICK(w, 0, 1, 255, 256));
     case 9: return write_call(PICK(w, CDROM_TBL, CDROM_TARSTA, 0, 0x10A), 0);
-    case 10: return (struct call){.kind = EXPECT, .one = PICK(w, 0, 99, 100), .two = PICK(w, 2, 59, 60), .three = PICK(w, 0, 74, 75)};
+    case 10: return write_call(PICK(w, CDROM_ATBLO, CDROM_ATBHI), PICK(w, 0, 1, 255, 256));
+    case 11: return (struct call){.kind = EXPECT, .one = PICK(w, 0, 99, 100), .two = PICK(w, 2, 59, 60), .three = PICK(w, 0, 74, 75)};
     default: return (struct call){.kind = WINDOW, .one = draw_below(w, 2400), .two = PICK(w, 0, 1, 588, 1176, 1177)};
     }
 }
@@ -115,7 +121,7 @@ static void spoil(struct writer *w, uint16_t why)
 }
 
 /* The sector that is due, or one of another place; sealed, as it lies on the disc. Some have a damaged byte, others fail in facts that
- * are drawn. Sealing takes the user bytes alone; those behind them are drawn too, so that a seed gives the calls that it always gave. */
+ * are drawn. */
 static struct call sector_call(struct writer *w)
 {
     struct call call = {.kind = SECTOR, .one = w->minute, .two = w->second, .three = w->frame};
@@ -126,7 +132,7 @@ static struct call sector_call(struct writer *w)
         call.damaged = (uint16_t)(1 + draw_below(w, CDROM_SECTOR_BYTES));
     else if (is_bad)
         call.why = (uint16_t)(1 + draw_below(w, 15));
-    for (size_t place = CDROM_USER_OFFSET; place < CDROM_SECTOR_BYTES; place++)
+    for (size_t place = CDROM_USER_OFFSET; place < CODE_OFFSET; place++)
         w->sector[place] = (uint8_t)draw(w);
     cdrom_seal(w->sector, sizeof w->sector, call.one, call.two, call.three);
     if (call.damaged > 0)
@@ -166,14 +172,28 @@ static struct call fill(struct writer *w, cdrom_chip *chip)
     return one_in(w, 8) ? expect_call(w) : write_call(CDROM_CTRL0, CDROM_DECEN);
 }
 
+/* A step towards a transfer of as many blocks as there may be: 32, or by their bytes 31 or 27. */
+static struct call ask_for_many(struct writer *w)
+{
+    switch (draw_below(w, 5)) {
+    case 0: return (struct call){.kind = WINDOW, .one = PICK(w, 0, 0, 0, 16), .two = PICK(w, 1, 50, 1023, 1024, 1024, 1176, 1176)};
+    case 1: return write_call(CDROM_MBTC0, 31);
+    case 2: return write_call(CDROM_TTC, PICK(w, 0, 40, 255));
+    case 3: return write_call(CDROM_ACCTL, CDROM_ACMEN | CDROM_TCINCEN | PICK(w, 0, 0, 0, 31));
+    default: return write_call(CDROM_ASTRG, CDROM_ADTT);
+    }
+}
+
 /* The next step towards a transfer: the window, ADCEN, the host's command, the blocks, the start. */
 static struct call serve(struct writer *w, cdrom_chip *chip)
 {
     uint16_t tcc = (uint16_t)standing(chip, CDROM_TCC);
+    if (tcc >= MANY_BLOCKS && !one_in(w, 4))
+        return ask_for_many(w);
     if (one_in(w, 4))
         return (struct call){.kind = WINDOW, .one = PICK(w, 0, 12, 15, 16, 16, 2060), .two = PICK(w, 1, 2, 3, 50, 146, 1024)};
     if (!(standing(chip, CDROM_ASCTRL) & CDROM_ADCEN))
-        return write_call(CDROM_ASCTRL, CDROM_ADCEN);
+        return write_call(CDROM_ASCTRL, CDROM_ADCEN | PICK(w, 0, CDROM_STWCEN, CDROM_STWCEN));
     if (!(standing(chip, CDROM_STATUS) & CDROM_BSY))
         return (struct call){.kind = COMMAND, .one = PICK(w, 0x08, 0x28, 0xA0, 0xFF, 0x100)};
     if (one_in(w, 4))
@@ -188,7 +208,7 @@ static struct call serve(struct writer *w, cdrom_chip *chip)
 static struct call rest(struct writer *w)
 {
     switch (draw_below(w, 6)) {
-    case 0: return (struct call){.kind = READ, .one = PICK(w, CDROM_TCC, CDROM_BUFC, CDROM_TARSTA, CDROM_TBL, CDROM_TTC)};
+    case 0: return (struct call){.kind = READ, .one = PICK(w, CDROM_TCC, CDROM_BUFC, CDROM_TARSTA, CDROM_TBL, CDROM_TTC, CDROM_ATBHI)};
     case 1: return (struct call){.kind = READ, .one = PICK(w, CDROM_SKIPC, CDROM_CTRL0, 0x00, 0x19D)};
     case 2: return (struct call){.kind = LOOK};
     case 3: return (struct call){.kind = STATUS};
@@ -199,23 +219,25 @@ static struct call rest(struct writer *w)
 
 static struct call in_transfer(struct writer *w)
 {
-    switch (draw_below(w, 40)) {
+    switch (draw_below(w, 24)) {
     case 0: return (struct call){.kind = SRST};
     case 1: return (struct call){.kind = COMMAND, .one = 0x28};
     case 2: return (struct call){.kind = WINDOW, .one = 16, .two = 1024};
     case 3: return rest(w);
-    case 4:
-    case 5: return sector_call(w);
+    case 4: return sector_call(w);
+    case 5:
     case 6:
     case 7:
-    case 8:
-    case 9: return (struct call){.kind = BURST, .one = draw_below(w, MOST_WORDS)};
+    case 8: return (struct call){.kind = BURST, .one = draw_below(w, PICK(w, FEW_WORDS, MOST_WORDS))};
     default: return (struct call){.kind = WORD};
     }
 }
 
+/* Now and then a ring that serves is filled again, so that there are long transfers all along. */
 struct call draw_call(struct writer *writer, cdrom_chip *chip)
 {
+    if (one_in(writer, 20) && standing(chip, CDROM_TCC) < MANY_BLOCKS)
+        writer->is_filling = 1;
     if (one_in(writer, writer->is_filling ? 300 : 30))
         return blind_call(writer);
     if (standing(chip, CDROM_STATUS) & CDROM_DRQ)

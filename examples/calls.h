@@ -4,7 +4,8 @@
 
 #include "cdrom.h"
 
-#define MOST_WORDS 3000
+/* Of a burst: more than the longest transfer has, 32 blocks of 1,023 words. */
+#define MOST_WORDS 33000
 
 enum kind { OPEN, WRITE, READ, WINDOW, EXPECT, SECTOR, LOOK, WORD, BURST, COMMAND, STATUS, SRST };
 

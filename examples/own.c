@@ -1,5 +1,6 @@
-/* An engineer's own code for a part of the chip; own.h says which. Built with -DFAULT=1 to 7 it has a slip, so that one can see
- * examples/against.c find it: 1 to 5 are those that paper 01 tells of other boards, 6 and 7 are in telling what failed of a sector. */
+/* An engineer's own code for a part of the chip; own.h says which. Built with -DFAULT=1 to 10 it has a slip, so that one can see
+ * examples/against.c find it: 1 to 5 are those that paper 01 tells of other boards, 6 and 7 are in telling what failed of a sector, 8 to 10
+ * in the byte bound of a start. */
 #include "own.h"
 
 #ifndef FAULT
@@ -8,9 +9,11 @@
 
 enum { DONE, WRONG_LENGTH, NO_REGISTER, OUT_OF_RANGE, BARRED, SWITCHES, TOO_FEW, DECODING_OFF, HELD, NO_ROOM };
 enum { BLOCK_BYTES = 2560, SECTOR_BYTES = 2352, CODE_AT = 2064 };
-enum { DECEN = 0x80, ADTT = 0x04, ADCEN = 0x40, BSY = 0x80, DRQ = 0x08, STAERR = 0x40, HCEI = 0x01 };
+enum { DECEN = 0x80, ADTT = 0x04, ADCEN = 0x40, STWCEN = 0x08, BSY = 0x80, DRQ = 0x08, STAERR = 0x40, HCEI = 0x01 };
 enum { BLIMEN = 0x20, BLIMS = 0x10, ACMEN = 0x40, TCINCEN = 0x20, ATLIM = 0x1F };
 enum { WHY_SYNC = 8, WHY_MODE = 4, WHY_EDC = 2, WHY_ADDRESS = 1 };
+/* The most bytes of a start, in whole words, that 35h and 34h can tell. */
+#define MOST_BYTES 65534u
 
 static uint32_t done(uint16_t result)
 {
@@ -128,11 +131,19 @@ static bool is_at_stop(const struct own *own)
     return around(own, own->b, 1) == own->t;
 }
 
+/* 34h and 35h as opened. */
+static void sign(struct own *own)
+{
+    own->atblo = 0x14;
+    own->atbhi = 0xEB;
+}
+
 uint32_t own_open(struct own *own, uint8_t *ring, uint16_t blocks)
 {
     if (blocks < 3 || blocks > 255)
         return WRONG_LENGTH;
     *own = (struct own){.ring = ring, .blocks = blocks, .expected = {0, 2, 0}};
+    sign(own);
     return DONE;
 }
 
@@ -266,18 +277,41 @@ static uint32_t write_switch(struct own *own, uint8_t *reg, uint16_t value, uint
     return DONE;
 }
 
+/* Never barred. */
+static uint32_t write_task(uint8_t *reg, uint16_t value)
+{
+    if (value > 0xFF)
+        return OUT_OF_RANGE;
+    *reg = (uint8_t)value;
+    return DONE;
+}
+
 static uint16_t least(uint16_t one, uint16_t other)
 {
     return one < other ? one : other;
 }
 
 /* With TTC set the blocks are reckoned, else MBC has them; ATLIM 0 is 32. */
-static uint16_t blocks_to_start(const struct own *own)
+static uint16_t blocks_asked_for(const struct own *own)
 {
     uint16_t limit = own->acctl & ATLIM;
     if (limit == 0 && FAULT != 3)
         limit = 32;
     return own->ttc > 0 ? least(limit, least(own->tcc, own->ttc)) : (uint16_t)(own->mbc + 1);
+}
+
+/* The byte bound, with and without STWCEN. There is a window. */
+static uint16_t blocks_within_bytes(const struct own *own)
+{
+    return FAULT == 8 ? 32 : (uint16_t)(MOST_BYTES / (2u * own->words));
+}
+
+/* By the bound the sixteen bits hold all of it. */
+static void tell_bytes(struct own *own)
+{
+    uint16_t bytes = (uint16_t)(2u * own->words * own->left);
+    own->atblo = (uint8_t)bytes;
+    own->atbhi = (uint8_t)(bytes >> 8);
 }
 
 static uint32_t start(struct own *own, uint16_t value)
@@ -288,14 +322,18 @@ static uint32_t start(struct own *own, uint16_t value)
         return BARRED;
     if (!(own->acctl & ACMEN && own->asctrl & ADCEN && own->status & BSY) || own->words == 0)
         return SWITCHES;
-    uint16_t blocks = blocks_to_start(own);
-    if (blocks == 0 || blocks > own->tcc)
+    uint16_t asked = blocks_asked_for(own), blocks = least(asked, blocks_within_bytes(own));
+    if (FAULT == 10 && own->ttc == 0)
+        own->mbc = (uint8_t)(blocks - 1);
+    if (blocks == 0 || (FAULT == 9 ? asked : blocks) > own->tcc)
         return TOO_FEW;
     own->mbc = (uint8_t)(blocks - 1);
     own->left = blocks;
     own->place = 0;
     own->status = DRQ;
     own->hirq = true;
+    if (own->asctrl & STWCEN)
+        tell_bytes(own);
     return DONE;
 }
 
@@ -305,7 +343,9 @@ uint32_t own_write(struct own *own, uint16_t reg, uint16_t value)
     case 0x0A: return write_ctrl0(own, value);
     case 0x12: return write_switch(own, &own->mbc, value, 0x1F);
     case 0x17: return start(own, value);
-    case 0x18: return write_switch(own, &own->asctrl, value, ADCEN);
+    case 0x18: return write_switch(own, &own->asctrl, value, ADCEN | STWCEN);
+    case 0x34: return write_task(&own->atblo, value);
+    case 0x35: return write_task(&own->atbhi, value);
     case 0x9A: return write_limits(own, &own->bicctl, value, (value & ~(BLIMEN | BLIMS)) == 0);
     case 0x9B: return write_limits(own, &own->buflim, value, value <= own->blocks - 2);
     case 0x9C: return write_acctl(own, value);
@@ -321,6 +361,8 @@ uint32_t own_read(struct own *own, uint16_t reg)
     case 0x12: return done(own->mbc);
     case 0x18: return done(own->asctrl);
     case 0x24: return done(own->t);
+    case 0x34: return done(own->atblo);
+    case 0x35: return done(own->atbhi);
     case 0x38: return done(own->status);
     case 0x3A: return done(own->last);
     case 0x80: return done(tarsta_of(own->why));
@@ -402,5 +444,6 @@ uint32_t own_srst(struct own *own)
     own->ttc = 0;
     own->status = 0;
     own->hirq = false;
+    sign(own);
     return DONE;
 }

@@ -1,8 +1,8 @@
 /* An engineer's own code for a part of the chip, to be held against the library (docs/FIRMWARE.md): the decoder's side, skips, and
  * transfers that the firmware starts. It needs no C library and no operating system.
  *
- * Left out, and not compared: packets, status completion and signature; the byte count; transfers that start by themselves (ATTEN);
- * of 18h all but ADCEN, of the status all but BSY and DRQ; 07h, 31h to 37h, 3Dh and 3Eh; writes of 9Dh; setting T; chip reset. */
+ * Left out, and not compared: packets, status completion and signature; transfers that start by themselves (ATTEN); of 18h all but
+ * ADCEN and STWCEN, of the status all but BSY and DRQ; 07h, 31h, 32h, 37h, 3Dh and 3Eh; writes of 9Dh; setting T; chip reset. */
 #ifndef OWN_H
 #define OWN_H
 
@@ -25,7 +25,7 @@ struct own {
     /* What failed of the last sector that was stored: sync 8, mode 4, EDC 2, address 1. 80h is made from it. */
     uint8_t why;
     /* Registers as they are read. */
-    uint8_t mbc, asctrl, status, bicctl, buflim, acctl;
+    uint8_t mbc, asctrl, atblo, atbhi, status, bicctl, buflim, acctl;
     /* The window; 0 words is none. */
     uint16_t offset, words;
     /* The running transfer: blocks that are left, 0 is none, and words of the present block that were read. */

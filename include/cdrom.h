@@ -18,14 +18,17 @@ extern "C" {
 
 /* Goes up when a name, a size, a number or a call of this header changes its meaning.
  *
+ * From 3 to 4: the bytes of a start do not pass 65,534, so that 35h and 34h have the whole count, where a larger one was cut to two bytes: of 32
+ * blocks of 1,024 words 31 are started (CDROM_ADTT). The chip's record and all other calls are as in 3.
+ *
  * From 2 to 3: cdrom_seal writes the parity, where it kept the bytes that were there, so that the sectors of cdrom_bench have it too;
  * cdrom_parity is new. The chip's record and all other calls are as in 2.
  *
  * From 1 to 2: the result of cdrom_judge is why (CDROM_WHY_..); a record that was kept under 1 must not be handed over; cdrom_chip_why is
  * new; the bench prints `why=` before `irq=`, and takes the line `call=scratch`.
  *
- * docs/FIRMWARE.md says what to change in code for 1 and for 2. */
-#define CDROM_VERSION 3
+ * docs/FIRMWARE.md says what to change in code for 1, 2 and 3. */
+#define CDROM_VERSION 4
 
 #define CDROM_SECTOR_BYTES 2352
 
@@ -100,7 +103,7 @@ uint32_t cdrom_edc(const uint8_t *bytes, size_t length);
 
 #define CDROM_TACK 0x07   /* w: clears APKT */
 #define CDROM_CTRL0 0x0A  /* w */
-#define CDROM_MBTC0 0x12  /* rw: MBC, the blocks of a transfer less one, 0..31 */
+#define CDROM_MBTC0 0x12  /* rw: MBC, the blocks of a transfer less one, 0..31; after a start, of what it has */
 #define CDROM_ASTRG 0x17  /* w */
 #define CDROM_ASCTRL 0x18 /* rw */
 #define CDROM_TBL 0x24    /* r: T, the block that is served next */
@@ -108,7 +111,7 @@ uint32_t cdrom_edc(const uint8_t *bytes, size_t length);
 #define CDROM_MISS2 0x30  /* r */
 #define CDROM_ATERR 0x31  /* rw */
 #define CDROM_ATINT 0x32  /* rw */
-#define CDROM_ATBLO 0x34  /* rw: the byte count's low byte */
+#define CDROM_ATBLO 0x34  /* rw: the byte count's low byte; with STWCEN a start sets both, to all its bytes */
 #define CDROM_ATBHI 0x35  /* rw: its high byte */
 #define CDROM_ATSTA 0x37  /* w: the status */
 #define CDROM_ATCMD 0x37  /* r: the last command */
@@ -128,7 +131,9 @@ uint32_t cdrom_edc(const uint8_t *bytes, size_t length);
 
 /* CTRL0 */
 #define CDROM_DECEN 0x80
-/* ASTRG, one of */
+/* ASTRG, one of. A start, by ADTT or by itself (ATTEN), has MBC+1 blocks where TTC is 0, else the least of ATLIM, TCC and TTC; but at most
+ * so many that their bytes, blocks times the window's words times 2, do not pass 65,534: 31 of 1,024 words, 27 of 1,176, and 32 of up to
+ * 1,023, which is no bound. TCC is then tested (6), and MBC becomes these blocks less one. A refused start leaves MBC. */
 #define CDROM_SCT 0x01  /* status completion */
 #define CDROM_ADTT 0x04 /* start a transfer */
 #define CDROM_SIGT 0x10 /* signature */
@@ -137,7 +142,7 @@ uint32_t cdrom_edc(const uint8_t *bytes, size_t length);
 #define CDROM_ADCEN 0x40
 #define CDROM_ASCEN 0x20 /* needs ADCEN */
 #define CDROM_AUTOEN 0x10
-#define CDROM_STWCEN 0x08
+#define CDROM_STWCEN 0x08 /* a start sets ATBLO and ATBHI */
 #define CDROM_A0IEN 0x01
 /* MISS2 */
 #define CDROM_FPKT 0x02
@@ -155,7 +160,7 @@ uint32_t cdrom_edc(const uint8_t *bytes, size_t length);
 /* BICCTL */
 #define CDROM_BLIMEN 0x20
 #define CDROM_BLIMS 0x10
-/* ACCTL; ATLIM is its low five bits, and 0 of them is 32 blocks */
+/* ACCTL; ATLIM is its low five bits, with TTC the most blocks of a start, and 0 of them is 32 */
 #define CDROM_ATTEN 0x80
 #define CDROM_ACMEN 0x40
 #define CDROM_TCINCEN 0x20

@@ -152,11 +152,13 @@ fn differing_byte(memory: &Memory, place: Option<usize>) -> Result<(), Part> {
     same(&name, model, library)
 }
 
-/// What the papers say, asked apart from the model: a record from an opening is sound, the two
-/// tests of soundness agree, and a sector is judged as it was damaged.
+/// What the papers say, asked apart from the model: a record from an opening is sound and has no more than 65,534
+/// bytes left to hand over, the two tests of soundness agree, and a sector is judged as it was damaged.
 fn agree_with_paper(step: &Step) -> Result<(), Part> {
     if step.after.reached && step.answer.is_done() {
         same("what is unsound in a record from an opening", Vec::new(), faults(&step.after.record))?;
+        let is_long = record::bytes_left(&step.after.record) > 65_534;
+        same("a transfer from an opening of more than 65,534 bytes", false, is_long)?;
     }
     if let Some(chip) = &step.after.chip {
         same("soundness of a record that is sound by its words", chip.is_sound(), true)?;

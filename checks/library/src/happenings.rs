@@ -54,7 +54,7 @@ pub const WRONG_RINGS: [&str; 5] =
 const LENT_A_RING: [&str; 4] = ["sector", "look", "word", "words"];
 
 /// All else that is counted.
-const NAMES: [&str; 123] = [
+const NAMES: [&str; 135] = [
     "ring of 3 blocks opened",
     "ring of 4 blocks opened",
     "ring of 25 blocks opened",
@@ -132,10 +132,21 @@ const NAMES: [&str; 123] = [
     "start cut by ATLIM",
     "start cut by TCC",
     "start cut by TTC",
+    "start cut by the byte bound with TTC set",
+    "start cut by the byte bound with STWCEN",
+    "start cut by the byte bound without STWCEN",
+    "start by firmware cut by the byte bound with TTC set",
+    "start by itself cut by the byte bound",
+    "start with TTC 0, MBC lowered",
+    "start with TTC 0, MBC lowered, MBC+1 above TCC",
+    "start with TTC 0, MBC lowered, of all good blocks",
+    "start refused (6), MBC+1 above the byte bound",
+    "start refused (6), MBC+1 above the byte bound, TCC 0",
+    "start refused (6), MBC+1 above the byte bound, one block short",
     "start of 32 blocks with ATLIM 0",
     "start of 32 blocks by MBC",
+    "start of 32 blocks of 1,023 words",
     "start with byte count (STWCEN)",
-    "byte count above 65,535",
     "words handed over",
     "words handed over from an odd offset",
     "words handed over from a ring above 25 blocks",
@@ -178,7 +189,12 @@ const NAMES: [&str; 123] = [
     "look at an unsound record",
     "call on a loaded record accepted",
     "accepted call that leaves a loaded record unsound",
+    "word of a loaded transfer past the byte bound",
 ];
+
+/// What 35h and 34h are to say of long starts: 31 blocks of 1,024 words, 27 of 1,176, 32 of 1,023, and the most that
+/// there is, 31 of 1,057.
+pub const BYTE_COUNTS: [usize; 4] = [63_488, 63_504, 65_472, 65_534];
 
 /// Kinds of records that are not the line's.
 pub const ANY_WORDS: &str = "any words";
@@ -215,6 +231,11 @@ pub fn read_name(reg: u16) -> String {
 
 pub fn ring_name(call: &str, ring: &str) -> String {
     format!("{call} lent a ring {ring}")
+}
+
+/// Of a read while the transfer runs.
+pub fn byte_count_name(bytes: usize, reg: u16) -> String {
+    format!("byte count of {},{:03} read by {reg:02X}h", bytes / 1000, bytes % 1000)
 }
 
 /// Of a sector that a chip took.
@@ -258,6 +279,7 @@ fn demanded() -> Vec<String> {
         names.extend(numbers.iter().map(|&number| write_name(reg, number)));
     }
     names.extend(READABLE.map(read_name));
+    names.extend(BYTE_COUNTS.into_iter().flat_map(|bytes| [0x34, 0x35].map(|reg| byte_count_name(bytes, reg))));
     names.extend((0..16).flat_map(|why| [stored_name(why), judged_name(why), unsound_why_name(why)]));
     for call in LENT_A_RING {
         names.extend(WRONG_RINGS.map(|ring| ring_name(call, ring)));

@@ -12,6 +12,7 @@ mod happenings;
 mod library;
 mod limits;
 mod loading;
+mod long_starts;
 mod memory;
 mod noting;
 mod parity;

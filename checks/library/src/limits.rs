@@ -78,7 +78,7 @@ pub const SPOILINGS: [Change; 50] = [
     change!("65,535 packet words", at::PACKET_WORDS, |_| Some(65535)),
 ];
 
-pub const NEIGHBOURS: [Change; 30] = [
+pub const NEIGHBOURS: [Change; 31] = [
     change!("N 3", at::BLOCKS, |r| fits_in(r, 3).then_some(3)),
     change!("N 255", at::BLOCKS, |_| Some(255)),
     change!("T is N-1", at::T, |r| Some(r[at::BLOCKS] - 1)),
@@ -97,6 +97,7 @@ pub const NEIGHBOURS: [Change; 30] = [
     change!("no window, and any offset", at::OFFSET, |r| (r[at::WORDS] == 0).then_some(65535)),
     change!("window taken outside a transfer", at::WORDS, |r| (!is_running(r)).then_some(0)),
     change!("transfer's blocks left are TCC", at::BLOCKS_LEFT, |r| is_running(r).then_some(r[at::TCC])),
+    change!("transfer's blocks left past the byte bound", at::BLOCKS_LEFT, past_bytes),
     change!("TCC is a transfer's blocks left", at::TCC, |r| is_running(r).then_some(r[at::BLOCKS_LEFT])),
     change!("transfer's position is its last word", at::PLACE, |r| is_running(r).then(|| r[at::WORDS] - 1)),
     change!("65,535 blocks left without a transfer", at::BLOCKS_LEFT, |r| (!is_running(r)).then_some(65535)),
@@ -117,6 +118,12 @@ fn fits_in(record: &Record, blocks: u16) -> bool {
     record[at::T..=at::BUFC].iter().all(|&kept| kept < blocks) && record[at::BUFLIM] + 2 <= blocks
 }
 
+/// One block more than a start of the record's window can have; the list has no limit there but TCC.
+fn past_bytes(record: &Record) -> Option<u16> {
+    let past = is_running(record).then(|| 65_534 / 2 / record[at::WORDS] + 1)?;
+    (past <= record[at::TCC]).then_some(past)
+}
+
 /// The offset at which the record's window ends with the sector.
 fn last_offset(record: &Record) -> Option<u16> {
     (record[at::WORDS] > 0).then(|| 2352 - 2 * record[at::WORDS])
@@ -134,16 +141,20 @@ mod tests {
     use crate::soundness::{faults, is_sound};
     use model::Chip;
 
-    /// An opened chip, the same in a reception, and one in a transfer.
-    fn sound_records() -> [Record; 3] {
+    /// An opened chip, one in a reception, one in a transfer, and one in a transfer of many blocks.
+    fn sound_records() -> [Record; 4] {
         let opened = encoded(&Chip::open(3).expect("3 blocks are a ring"));
-        let mut receiving = opened;
+        let mut receiving = encoded(&Chip::open(4).expect("4 blocks are a ring"));
         receiving[STATUS] |= 1 << RECEIVING;
+        receiving[at::WORDS] = 4;
         let mut running = encoded(&Chip::open(9).expect("9 blocks are a ring"));
         running[STATUS] |= 1 << RUNNING;
         (running[at::TCC], running[at::BLOCKS_LEFT]) = (5, 2);
         (running[at::OFFSET], running[at::WORDS], running[at::PLACE]) = (16, 4, 1);
-        [opened, receiving, running]
+        let mut long = running;
+        (long[at::BLOCKS], long[at::TCC], long[at::BUFC], long[at::BLOCKS_LEFT]) = (255, 254, 254, 27);
+        (long[at::OFFSET], long[at::WORDS]) = (0, 1176);
+        [opened, receiving, running, long]
     }
 
     /// But for the least N, below which nothing can lie, one thing of the list is at fault and no more.
@@ -165,9 +176,10 @@ mod tests {
     fn each_neighbour_is_sound() {
         let records = sound_records();
         for change in &NEIGHBOURS {
-            for record in records.iter().filter_map(|record| change.applied(record)) {
-                assert!(is_sound(&record), "{}: {:?}", change.name, faults(&record));
-            }
+            let neighbours: Vec<Record> = records.iter().filter_map(|record| change.applied(record)).collect();
+            assert!(!neighbours.is_empty(), "{} can never be made", change.name);
+            let unsound = neighbours.iter().find(|record| !is_sound(record));
+            assert!(unsound.is_none(), "{}: {:?}", change.name, unsound.map(faults));
         }
     }
 }

@@ -1,5 +1,7 @@
 //! What happened in a call, told from the call, its answer and the chip on both sides of it.
 
+mod starts;
+
 use crate::call::{Answer, Call};
 use crate::happenings::{
     answer_name, judged_name, read_name, ring_name, stored_name, unsound_why_name, write_name, Happenings, WRONG_RINGS,
@@ -33,7 +35,7 @@ impl Happenings {
         }
         if let Some(before) = &step.before.chip {
             self.note_refusals(step, before);
-            self.note_loaded(step);
+            self.note_loaded(step, before);
         }
         if step.before.chip.is_none() {
             self.count(&unsound_why_name(record::why(&step.before.record)));
@@ -73,11 +75,14 @@ impl Happenings {
         self.count_if(running, "opening over a chip in a transfer");
     }
 
-    fn note_loaded(&mut self, step: &Step) {
+    fn note_loaded(&mut self, step: &Step, before: &Chip) {
         let accepted = !step.before.reached && step.answer.is_done();
         self.count_if(accepted, "call on a loaded record accepted");
         let spoiled = accepted && step.after.chip.is_none();
         self.count_if(spoiled, "accepted call that leaves a loaded record unsound");
+        if accepted {
+            self.note_long_transfer(step, before);
+        }
     }
 
     /// Of sound records: registers by number, and lengths that do not fit.
@@ -109,6 +114,8 @@ impl Happenings {
     fn note_reached(&mut self, step: &Done) {
         self.note_facts(step);
         self.note_refused_sector(step);
+        self.note_refused_start(step);
+        self.note_byte_count(step);
         self.note_look(step);
         self.note_burst(step);
         if !step.answer.is_done() || matches!(step.call, Call::Open { .. }) {
@@ -234,44 +241,8 @@ impl Happenings {
         }
     }
 
-    fn note_start(&mut self, step: &Done) {
-        let (before, after) = (step.before, step.after);
-        let ended = has_ended(step);
-        if after.transfer.is_none() || before.transfer.is_some() && !ended {
-            return;
-        }
-        let by_firmware = *step.call == Call::Write { reg: 0x17, value: 0x04 };
-        let by_write = matches!(step.call, Call::Write { .. }) && !by_firmware;
-        self.count_if(by_firmware, "start by firmware");
-        self.count_if(by_firmware && before.ttc == 0, "start by firmware with TTC 0");
-        self.count_if(by_firmware && before.ttc > 0, "start by firmware with TTC set");
-        self.count_if(!by_firmware, "start by itself");
-        self.count_if(ended, "start by itself at the last word");
-        self.count_if(matches!(step.call, Call::Sector { .. }), "start by itself at a sector");
-        self.count_if(matches!(step.call, Call::Command { .. }), "start by itself at a command");
-        self.count_if(matches!(step.call, Call::PacketWord { .. }), "start by itself at the sixth packet word");
-        self.count_if(by_write, "start by itself at a write");
-        self.note_started(after);
-    }
-
-    /// The chip in a transfer that has just started.
-    fn note_started(&mut self, chip: &Chip) {
-        let blocks = chip.mbc + 1;
-        let limit = if chip.atlim == 0 { 32 } else { chip.atlim };
-        let reckoned = chip.ttc > 0;
-        self.count_if(blocks > 1, "start of several blocks");
-        self.count_if(reckoned && limit < chip.ttc.min(chip.tcc), "start cut by ATLIM");
-        self.count_if(reckoned && chip.tcc < limit.min(chip.ttc), "start cut by TCC");
-        self.count_if(reckoned && chip.ttc < limit.min(chip.tcc), "start cut by TTC");
-        self.count_if(reckoned && chip.atlim == 0 && blocks == 32, "start of 32 blocks with ATLIM 0");
-        self.count_if(!reckoned && blocks == 32, "start of 32 blocks by MBC");
-        self.count_if(chip.stwcen, "start with byte count (STWCEN)");
-        let bytes = blocks * chip.window.words * 2;
-        self.count_if(chip.stwcen && bytes > 65535, "byte count above 65,535");
-    }
-
     fn note_transfer(&mut self, step: &Done) {
-        let handed = handed(step);
+        let handed = handed(step.call, step.answer);
         let (before, after) = (step.before, step.after);
         if handed == 0 {
             return;
@@ -367,8 +338,8 @@ fn wrong_ring(lent: usize, blocks: usize) -> Option<&'static str> {
     ways.iter().position(|&way| way).map(|way| WRONG_RINGS[way])
 }
 
-fn handed(step: &Done) -> usize {
-    match (step.call, *step.answer) {
+fn handed(call: &Call, answer: &Answer) -> usize {
+    match (call, *answer) {
         (Call::Word { .. }, Answer::Reply { number: 0, .. }) => 1,
         (_, Answer::Burst { handed, .. }) => handed,
         _ => 0,
@@ -377,7 +348,7 @@ fn handed(step: &Done) -> usize {
 
 /// Whether the words that were handed over reached the end of the transfer that ran.
 fn has_ended(step: &Done) -> bool {
-    let handed = handed(step);
+    let handed = handed(step.call, step.answer);
     handed > 0 && handed >= words_left(step.before)
 }
 

@@ -134,6 +134,11 @@ pub fn is_receiving(record: &Record) -> bool {
     bit(record[STATUS], RECEIVING)
 }
 
+/// The bytes of the blocks that a transfer has left, and 0 where none runs.
+pub fn bytes_left(record: &Record) -> usize {
+    is_running(record) as usize * record[BLOCKS_LEFT] as usize * record[WORDS] as usize * 2
+}
+
 /// The address that the next sector must have, whatever its numbers are.
 pub fn expected(record: &Record) -> Address {
     Address::new(record[MINUTE], record[SECOND], record[FRAME])

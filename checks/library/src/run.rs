@@ -43,9 +43,15 @@ struct Run<'a, L: Library> {
     other_memory: Memory,
     state: State,
     limit: u64,
-    /// How often each change was made; the rarest that can be made comes next.
-    spoilings: Vec<u64>,
-    neighbours: Vec<u64>,
+    /// The rarest change that can be made comes next.
+    spoilings: Vec<Tally>,
+    neighbours: Vec<Tally>,
+}
+
+/// How often a change was made, and how often it could be.
+struct Tally {
+    made: u64,
+    possible: u64,
 }
 
 impl<'a, L: Library> Run<'a, L> {
@@ -57,8 +63,11 @@ impl<'a, L: Library> Run<'a, L> {
         let (memory, other_memory) = (Memory::stale(&mut random), Memory::stale(&mut random));
         let state = State::loaded(any_words(&mut random));
         // Runs are not to begin with the same changes.
-        let spoilings = SPOILINGS.iter().map(|_| random.below(2)).collect();
-        let neighbours = NEIGHBOURS.iter().map(|_| random.below(2)).collect();
+        let mut tallies = |changes: &[Change]| {
+            let firsts = changes.iter().map(|_| random.below(50));
+            firsts.map(|possible| Tally { made: 0, possible }).collect()
+        };
+        let (spoilings, neighbours) = (tallies(&SPOILINGS), tallies(&NEIGHBOURS));
         Run { checker, random, line, walker, memory, other_memory, state, limit, spoilings, neighbours }
     }
 
@@ -174,12 +183,17 @@ impl<'a, L: Library> Run<'a, L> {
     }
 }
 
-/// Of the changes that can be made on the record the one that was made least often so far.
-fn rarest_change<'c>(changes: &'c [Change], made: &mut [u64], record: &Record) -> Option<(&'c Change, Record)> {
-    let possible = changes.iter().enumerate().filter_map(|(place, change)| Some((place, change.applied(record)?)));
-    let (place, changed) = possible.min_by_key(|(place, _)| made[*place])?;
-    made[place] += 1;
-    Some((&changes[place], changed))
+/// Of the changes that can be made on the record the one that was made least often so far; of several the one that
+/// could be made least often, such as those that need a transfer.
+fn rarest_change<'c>(changes: &'c [Change], tallies: &mut [Tally], record: &Record) -> Option<(&'c Change, Record)> {
+    let possible = changes.iter().zip(tallies).filter_map(|(change, tally)| {
+        let changed = change.applied(record)?;
+        tally.possible += 1;
+        Some((change, tally, changed))
+    });
+    let (change, tally, changed) = possible.min_by_key(|(_, tally, _)| (tally.made, tally.possible))?;
+    tally.made += 1;
+    Some((change, changed))
 }
 
 /// The bytes of the record's own N, where there is so much memory; so N itself is no reason to refuse.

@@ -11,6 +11,7 @@ const WRONG_ADDRESSES: [Address; 4] =
     [Address::new(100, 0, 0), Address::new(0, 60, 0), Address::new(0, 0, 75), Address::new(256, 256, 256)];
 
 const LAST_BUT_ONE: Address = Address::new(99, 59, 73);
+const LAST_BUT_ONE_OF_A_MINUTE: Address = Address::new(9, 59, 73);
 
 /// Parts of a sector whose words tell blocks apart.
 const TELLING_OFFSETS: [u16; 11] = [0, 10, 11, 12, 14, 2062, 2064, 2066, 2075, 2247, 2344];
@@ -21,7 +22,7 @@ impl Chooser {
         match self.random.below(60) {
             0..=1 => Call::Srst,
             2..=4 => self.look(chip),
-            5 => Call::Status,
+            5 => self.random.pick(&[Call::Status, Call::Status, Call::Reset]),
             6..=9 => self.read(),
             10..=17 => self.sector(chip),
             18 => self.then(write(0x0A, 0x00), &[write(0x0A, 0x80)]),
@@ -67,8 +68,8 @@ impl Chooser {
             92 => self.completion(),
             93 => self.abort_or_sign(),
             94..=95 => self.drop_count(chip),
-            96..=98 => self.long_start(chip),
-            _ if chip.blocks > 60 && self.random.one_in(3) => self.long_burst(chip),
+            96..=98 => self.long_starts(chip),
+            _ if chip.blocks > 60 && self.random.one_in(2) => self.long_burst(chip),
             _ => self.begin_again(),
         }
     }
@@ -192,11 +193,11 @@ impl Chooser {
         }
     }
 
-    /// Often to the disc's end, and on over it.
+    /// Often to the end of the disc or of a minute, and on over it.
     fn move_on_disc(&mut self, chip: &Chip) -> Call {
         let any = self.any_address();
         let wrong = self.random.pick(&WRONG_ADDRESSES);
-        let address = self.random.pick(&[any, any, LAST_BUT_ONE, wrong]);
+        let address = self.random.pick(&[any, any, LAST_BUT_ONE, LAST_BUT_ONE_OF_A_MINUTE, wrong]);
         let first = self.then(write(0x0A, 0x00), &[Call::SetExpected { address }, write(0x0A, 0x80)]);
         self.plan.push_back(Wish::Fill(chip.tcc + 3));
         first
@@ -215,7 +216,7 @@ impl Chooser {
 
 /// Serving the host.
 impl Chooser {
-    fn serve(&mut self, chip: &Chip) -> Call {
+    pub(crate) fn serve(&mut self, chip: &Chip) -> Call {
         if chip.window.words == 0 || self.random.one_in(8) {
             return self.window();
         }
@@ -273,37 +274,8 @@ impl Chooser {
         write(0x18, 0x40 | others)
     }
 
-    /// A ring filled as far as a long start asks, the start with ATLIM 0 or by MBC, and what it
-    /// leaves in MBC and the byte count.
-    fn long_start(&mut self, chip: &Chip) -> Call {
-        let good = (chip.blocks - 1).min(self.random.pick(&[32, 33, 40, 254]));
-        let switches = self.random.pick(&[0x60, 0x60, 0xE0]) | self.random.pick(&[0, 0, 0, 31]);
-        let words = self.random.pick(&[1, 2, 1024, 1100, 1176]);
-        let first = self.prepare(good, switches, words);
-        let count = self.random.pick(&[31, 32, 33, 255]);
-        let by_mbc = [write(0x9F, 0), write(0x12, good.min(32) as u16 - 1)];
-        let by_ttc = [write(0x12, 0), write(0x9F, count)];
-        let counts = if self.random.one_in(3) { by_mbc } else { by_ttc };
-        self.follow(&[Call::Command { code: 0x28 }, counts[0], counts[1], write(0x17, 0x04)]);
-        self.follow(&[0x12, 0x35, 0x34].map(|reg| Call::Read { reg }));
-        if self.random.one_in(2) {
-            self.plan.push_back(Wish::Drain);
-        }
-        first
-    }
-
-    /// Transfers that start by themselves one after another, read by one burst of more
-    /// words than sixteen bits count.
-    fn long_burst(&mut self, chip: &Chip) -> Call {
-        let first = self.prepare(chip.blocks - 1, 0xE0, 1176);
-        let count = self.random.pick(&[65536, 65537, 70_000, 255 * 1176]);
-        let burst = Call::Words { lent: ring_bytes(chip), count };
-        self.follow(&[Call::Command { code: 0x28 }, write(0x9F, 255), burst]);
-        first
-    }
-
     /// The switches, the window and so many good blocks, from an abort on.
-    fn prepare(&mut self, good: usize, switches: u16, words: u16) -> Call {
+    pub(crate) fn prepare(&mut self, good: usize, switches: u16, words: u16) -> Call {
         let window = Call::SetWindow { offset: 0, words };
         self.follow(&[write(0x0A, 0x00), write(0x9A, 0x20), write(0x9C, switches), window]);
         self.follow(&[write(0x18, 0x48), write(0x0A, 0x80)]);
@@ -373,7 +345,7 @@ impl Chooser {
     /// Another chip over the same memory, or the same one as opened.
     fn begin_again(&mut self) -> Call {
         let first = if self.random.one_in(3) { Call::Reset } else { self.opening() };
-        if self.random.one_in(3) {
+        if self.random.one_in(2) {
             self.fill_without_window();
         }
         first
@@ -412,8 +384,9 @@ impl Chooser {
             Call::Command { code: 0x28 },
             Call::PacketWord { word: 1 },
         ];
-        if self.random.one_in(12) {
-            return self.random.pick(&[Call::Reset, Call::Open { blocks: 26 }]);
+        if self.random.one_in(8) {
+            let opening = self.opening();
+            return self.random.pick(&[Call::Reset, opening]);
         }
         self.random.pick(&writes)
     }

@@ -50,8 +50,13 @@ impl Chooser {
     /// The next call, now and then with a length that does not fit.
     pub fn next(&mut self, chip: &Chip) -> Call {
         let call = self.fitting(chip);
-        // Sectors and bursts come often enough.
-        let rarity = if matches!(call, Call::Look { .. } | Call::Word { .. }) { 5 } else { 20 };
+        // Sectors come often enough.
+        let rarity = match call {
+            Call::Word { .. } => 3,
+            Call::Look { .. } => 4,
+            Call::Words { .. } => 12,
+            _ => 20,
+        };
         if call.lent().is_some() && self.random.one_in(rarity) {
             return call.with_lent(self.wrong_length(chip));
         }
@@ -112,18 +117,12 @@ impl Chooser {
         let fitting = ring_bytes(chip);
         let blocks = self.random.between(3, 255) as usize * BLOCK_BYTES;
         let shorter = fitting.saturating_sub(65536);
-        self.random.pick(&[
-            0,
-            1,
-            fitting - 1,
-            fitting + 1,
-            fitting - BLOCK_BYTES,
-            fitting + BLOCK_BYTES,
-            blocks,
-            shorter,
-            fitting + 65536,
-            Memory::longest(),
-        ])
+        // Those that are asked for by name come most often.
+        if self.random.one_in(3) {
+            let beside = [fitting - BLOCK_BYTES, fitting + BLOCK_BYTES];
+            return self.random.pick(&[1, beside[0], beside[1], blocks, shorter, Memory::longest()]);
+        }
+        self.random.pick(&[0, fitting - 1, fitting + 1, fitting + 65536])
     }
 
     pub(crate) fn sector(&mut self, chip: &Chip) -> Call {

@@ -1,7 +1,9 @@
 //! Libraries that are wrong in a way of their own: the slips that paper 01 has seen on other
-//! boards, those that it wants shut out, and such as the kept facts may have. Each must be noticed.
+//! boards, those that it wants shut out, and such as the kept facts and the bytes of a start may
+//! have. Each must be noticed.
 
 mod faulty;
+mod starts;
 
 use ecma130::open;
 use faulty::{Faulty, Made};

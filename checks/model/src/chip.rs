@@ -9,6 +9,8 @@ pub const BLOCK_BYTES: usize = 2560;
 const START_ADDRESS: Address = Address::new(0, 2, 0);
 const PACKET_COMMAND: u16 = 0xA0;
 const PACKET_WORDS: usize = 6;
+/// The most that a start may hand over: 35h and 34h hold any even count to here, and none of them reads as 0.
+const MOST_BYTES: usize = 65_534;
 
 #[derive(Clone, Copy, Debug, PartialEq, Eq)]
 pub enum Refusal {
@@ -244,6 +246,11 @@ impl Chip {
 impl Window {
     fn fits(self) -> bool {
         (1..=SECTOR_BYTES / 2).contains(&self.words) && self.offset + 2 * self.words <= SECTOR_BYTES
+    }
+
+    /// The most blocks of a start; there must be a window.
+    pub fn most_blocks(self) -> usize {
+        MOST_BYTES / (2 * self.words)
     }
 }
 
@@ -594,23 +601,20 @@ impl Chip {
         Ok(())
     }
 
-    /// With TTC set the chip reckons the burst itself; else MBC says it.
+    /// With TTC set the chip reckons the burst itself; else MBC says it. Either way its bytes are bounded, which is
+    /// why there may be enough good blocks where there are fewer than MBC+1.
     fn blocks_to_start(&self) -> usize {
         let limit = if self.atlim == 0 { 32 } else { self.atlim };
-        if self.ttc != 0 {
-            limit.min(self.tcc).min(self.ttc)
-        } else {
-            self.mbc + 1
-        }
+        let asked = if self.ttc != 0 { limit.min(self.tcc).min(self.ttc) } else { self.mbc + 1 };
+        asked.min(self.window.most_blocks())
     }
 
     fn start(&mut self) {
         let blocks = self.blocks_to_start();
         self.mbc = blocks - 1;
         if self.stwcen {
-            let bytes = blocks * self.window.words * 2;
-            self.reg34 = bytes as u8;
-            self.reg35 = (bytes >> 8) as u8;
+            let bytes = u16::try_from(blocks * self.window.words * 2).expect("the bytes of a start are bounded");
+            [self.reg34, self.reg35] = bytes.to_le_bytes();
         }
         self.reg32 = 0x02;
         self.drq = true;

@@ -1,4 +1,4 @@
-//! The buffer board of paper 01 once more, with asks 1 and 2 of paper 02, as plainly as it can be said, and
+//! The buffer board of paper 01 once more, with asks 1 to 3 of paper 02, as plainly as it can be said, and
 //! the bench program's line format on top of it. Written from the papers and the
 //! readings of docs/DECISIONS.md, to be compared line by line with the bench program.
 

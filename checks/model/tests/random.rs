@@ -65,6 +65,7 @@ fn assert_invariants(chip: &Chip) {
         assert!(chip.acmen && chip.adcen && chip.window.words > 0 && chip.drq && !chip.bsy);
         assert!((1..=chip.tcc.min(32)).contains(&transfer.blocks_left));
         assert!(chip.ttc == 0 || transfer.blocks_left <= chip.ttc);
+        assert!(transfer.blocks_left * chip.window.words * 2 <= 65_534);
     }
 }
 

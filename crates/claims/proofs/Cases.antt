@@ -1,13 +1,11 @@
 -- The bench cases hold. Assumes nothing.
 use Prim.Native.Nat.{ℕ, _+_, _*_}
 use mathlib.Core.Path.{_≡_, refl, ap}
-use mathlib.Core.Bool.{Bool, true, false, _&&_, _||_, not, false≢true}
+use mathlib.Core.Bool.{Bool, true, false, _||_, not, false≢true}
 use mathlib.Core.List.{List}
-use lib.Dec.{eqb}
 use lib.ListN.{length}
 use borrow.Author.Tests.{eq-eqb}
 use Rattle.laws.specs.Numbers.{weight}
-use Rattle.laws.proofs.Choice.{if-false, right-false}
 use Rattle.calls.specs.declared.Call.the-variants.{Write, SetWindow}
 use Rattle.sector.specs.Address.{next}
 use Rattle.sector.specs.Receive.{received}
@@ -17,17 +15,17 @@ use Rattle.reply.specs.Reply.{answer}
 use Rattle.controller.specs.Calls.{stepped}
 use Rattle.controller.specs.Decoder.{admission, counted}
 use Rattle.controller.specs.Named.{window-fits, set-window}
-use Rattle.controller.specs.Step as step
-use Rattle.controller.specs.Transfer.{byte-count, start, started, engaged, settled, concluded}
-use Rattle.controller.specs.Write.{write, write-buflim, write-tcc, write-skipc, write-astrg}
+use Rattle.controller.specs.Transfer.{settled, concluded}
+use Rattle.controller.specs.Write.{write, write-buflim, write-tcc, write-skipc}
 use Rattle.controller.specs.declared.state.Controller.{Controller}
 use Rattle.outcomes.proofs.Starts.{settled-same}
 use Rattle.outcomes.proofs.Outcome.{settled-counts}
-use Rattle.chip.specs.Chip.{refused, opened, finished}
+use Rattle.chip.specs.Chip.{refused, opened}
 use Rattle.chip.specs.Calls.{called, sector-number, sector-told}
 use Rattle.chip.specs.Sound.{sound}
 use Rattle.chip.specs.declared.Chip.{Chip}
-use Rattle.claims.specs.Cases.{number, afterwards, address, Given4, Given7, Given8, Given9, Given10, Cases}
+use Rattle.claims.specs.Cases.{number, afterwards, address, Given4, Given7, Given8, with-ttc, Given10, Cases}
+use Rattle.claims.proofs.Starts.{starts}
 
 p1 : (number (opened 2) ≡ 1) × (number (opened 256) ≡ 1)
 unfolding opened
@@ -67,33 +65,6 @@ p8 c h = (
   simp (h .sound-record, h .idle, h .acmen, h .two),
   simp (h .sound-record, h .idle, h .acmen, h .two, settled-counts),
   simp (h .sound-record, h .idle, h .acmen, h .two),
-)
-
--- a running transfer lets no start follow
-pub none-due : (k : Controller) → settled (started k) ≡ started k
-unfolding settled
-none-due k =
-    let d = started k in
-    let due = d .acctl .atten && not (eqb (d .counts .ttc) 0) in
-    if-false (due && not (engaged d)) (start d .controller) d (right-false due (not (engaged d)) refl)
-
-write-start : (c : Chip) → Given9 c → write (c .controller) 0x17 0x04 (c .place .n) ≡ step.done (started (c .controller))
-unfolding write write-astrg start
-write-start c h = simp (h .idle, h .unreceiving, h .acmen, h .adcen, h .bsy, h .two, h .five, h .atlim, h .words)
-
-begun-by : (c : Chip) → Given9 c → called c (Write 0x17 0x04) ≡ finished (c .place) (step.done (started (c .controller)))
-unfolding called stepped concluded
-begun-by c h = simp (h .sound-record, write-start c h) (ap (λ (k : Controller). finished (c .place) (step.done k)) (none-due (c .controller)))
-
-p9 : (c : Chip) → Given9 c
-    → (number (called c (Write 0x17 0x04)) ≡ 0) × (afterwards (called c (Write 0x17 0x04)) .mbc ≡ 1)
-    × (afterwards (called c (Write 0x17 0x04)) .task .atbhi ≡ 0x10) × (afterwards (called c (Write 0x17 0x04)) .task .atblo ≡ 0x00)
-unfolding byte-count
-p9 c h = (
-  simp (begun-by c h),
-  simp (begun-by c h, h .two, h .five, h .atlim, h .words, h .stwcen),
-  simp (begun-by c h, h .two, h .five, h .atlim, h .words, h .stwcen),
-  simp (begun-by c h, h .two, h .five, h .atlim, h .words, h .stwcen),
 )
 
 -- a good sector has no bit of 80h
@@ -142,6 +113,6 @@ cases =
       p6 = p6;
       p7 = p7;
       p8 = p8;
-      p9 = p9;
+      p9 = λ c m h. starts c (with-ttc 2 5 0 1024 true m) h refl refl refl;
       p10 = p10;
     }

@@ -1,7 +1,7 @@
 -- The conditions of the bench cases are met: a run of the row machine for each, with three blocks and sealed sectors, and so one of the chip
 -- that refines it. Assumes nothing.
 use Prim.Native.Nat.{ℕ}
-use mathlib.Core.Path.{_≡_}
+use mathlib.Core.Path.{_≡_, refl}
 use mathlib.Core.Bool.{true}
 use mathlib.Core.List.{List, [], _∷_}
 use native.Mathlib.Omega.{arith}
@@ -20,10 +20,11 @@ use Rattle.outcomes.specs.Row.{Row, row-step, the-row}
 use Rattle.ring.proofs.Represents.{represents-full}
 use Rattle.chip.specs.Sound.{sound}
 use Rattle.chip.specs.Machine.{State, the-chip}
-use Rattle.claims.specs.Cases.{Given4, Given7, Given8, Given9, Given10, CasesMet}
+use Rattle.claims.specs.Cases.{Given4, Given7, Given8, GivenStart, with-ttc, Given10, CasesMet}
 use Rattle.claims.specs.Refinement.{Refines, Simulation}
 use Rattle.claims.specs.Runs.{write, set-window as window, command}
 use Rattle.claims.proofs.Reached.{Follows, reached}
+use Rattle.claims.proofs.Starts.{given}
 use Rattle.claims.proofs.Runs.{calls, _then_, opened, frame, first, second}
 
 module _ (S : Simulation the-chip the-row) (refines : Follows S) (refines-sound : (s : State) (r : Row) → Refines s r → sound (s .chip) ≡ true) where
@@ -44,21 +45,22 @@ module _ (S : Simulation the-chip the-row) (refines : Follows S) (refines-sound 
               record { sound-record = refines-sound s _ h; idle = simp (h .controller); acmen = simp (h .controller); two = simp (h .controller) };
           -- a window, ADCEN and STWCEN, BSY, TTC
           reach9 =
-              reached S refines 3 (omega arith) (omega arith) (λ s. Given9 (s .chip))
+              reached S refines 3 (omega arith) (omega arith) (λ s. GivenStart (s .chip) (with-ttc 2 5 0 1024 true 0))
               (first u size then second u size then calls (window 16 1024 ∷ write 0x18 0x48 ∷ command 0 ∷ write 0x9F 5 ∷ []) _) λ s h.
-              record {
-                sound-record = refines-sound s _ h;
-                idle = simp (h .controller);
-                unreceiving = simp (h .controller);
-                acmen = simp (h .controller);
-                adcen = simp (h .controller);
-                bsy = simp (h .controller);
-                two = simp (h .controller);
-                five = simp (h .controller);
-                atlim = simp (h .controller);
-                words = simp (h .controller);
-                stwcen = simp (h .controller);
-              };
+              given (s .chip) (with-ttc 2 5 0 1024 true 0) _ (refines-sound s _ h) (h .controller)
+              (record {
+                idle = refl;
+                unreceiving = refl;
+                acmen = refl;
+                adcen = refl;
+                bsy = refl;
+                tcc = refl;
+                ttc = refl;
+                mbc = refl;
+                atlim = refl;
+                words = refl;
+                stwcen = refl;
+              });
           -- the expected address is set before DECEN; a sector sealed at it is good
           reach10 =
               reached S refines 3 (omega arith) (omega arith) (λ s. (x : List ℕ) × Given10 (s .chip) (s .ring) x)

@@ -9,10 +9,14 @@ pub mod Refines
 pub mod Demand3
 pub mod Counted
 pub mod Memory
+pub mod Begun
+pub mod Kept
 pub mod Shown
 pub mod Renewed
 pub mod Sentence
 pub mod Letter
+pub mod ByteCount
+pub mod Starts
 pub mod Cases
 pub mod Runs
 pub mod MetRuns
@@ -23,6 +27,7 @@ pub mod PinsCalls
 pub mod PinsRuns
 pub mod Pins
 pub mod PinsMet
+pub mod StartsMet
 pub mod OneBook
 pub mod WrongWord
 pub mod Stages

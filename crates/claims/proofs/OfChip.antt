@@ -5,6 +5,7 @@ use Rattle.claims.specs.Cases.{CasesMet}
 use Rattle.claims.specs.Pins.{Pins, PinsMet}
 use Rattle.claims.specs.Letter.{Accounted, Never-again}
 use Rattle.claims.specs.Runs.{MetClaim}
+use Rattle.claims.specs.Starts.{StartsMet}
 use Rattle.claims.specs.Wrong.{Shut-out, bad-restart, taking-abort, constant-word, keeping-refused}
 use Rattle.claims.proofs.CasesMet as cases
 use Rattle.claims.proofs.Demand3.{row-demand3, demand3}
@@ -13,6 +14,7 @@ use Rattle.claims.proofs.MetRuns as runs
 use Rattle.claims.proofs.Pins as table
 use Rattle.claims.proofs.PinsMet as numbers
 use Rattle.claims.proofs.Refines.{refined-sound, chip-simulates}
+use Rattle.claims.proofs.StartsMet as starts
 use Rattle.claims.proofs.WrongAbort as abort
 use Rattle.claims.proofs.WrongFacts as facts
 use Rattle.claims.proofs.WrongRestart as restart
@@ -35,6 +37,9 @@ pins = table.pins chip-simulates
 
 pub pins-met : PinsMet
 pins-met = numbers.pins-met chip-simulates (λ s r h. h) refined-sound
+
+pub starts-met : StartsMet
+starts-met = starts.starts-met chip-simulates (λ s r h. h) refined-sound
 
 pub bad-restart-fails : Shut-out bad-restart
 bad-restart-fails = restart.bad-restart-fails row-demand3

@@ -10,9 +10,9 @@ use Rattle.chip.specs.Chip.{opened}
 use Rattle.chip.specs.Machine.{the-chip}
 use Rattle.chip.specs.Sound.{sound}
 use Rattle.claims.specs.Cases.{address}
-use Rattle.claims.specs.Pins.{chip, five, with-window, with-atlim, running, resting, Pins}
+use Rattle.claims.specs.Pins.{chip, five, with-window, with-atlim, running, long-running, resting, Pins}
 use Rattle.claims.specs.Refinement.{Simulation}
-use Rattle.claims.proofs.PinsCalls.{twenty, forty, thirty-one, look-block, lent-3, lent-255, outside, inside}
+use Rattle.claims.proofs.PinsCalls.{look-block, lent-3, lent-255, outside, inside}
 use Rattle.claims.proofs.PinsRuns.{wrong-code, why-kept, look-headers}
 use Rattle.claims.proofs.Runs.{by-simulation, telling-simulates}
 
@@ -21,9 +21,6 @@ module _ (S : Simulation the-chip the-row) where
   unfolding opened sound
   pins =
       record {
-        twenty = twenty;
-        forty = forty;
-        thirty-one = thirty-one;
         wrong-code = λ u k v h. by-simulation S (omega arith) (omega arith) refl (wrong-code u k v h);
         why-kept = λ u k v h. by-simulation (telling-simulates S) (omega arith) (omega arith) refl (why-kept u k v h);
         look-headers = λ u size. by-simulation S (omega arith) (omega arith) refl (look-headers u size);
@@ -61,6 +58,7 @@ module _ (S : Simulation the-chip the-row) where
         left-1 = inside (running 1 0) refl;
         left-2 = inside (running 2 0) refl;
         left-3 = outside (running 3 0) refl;
+        left-32 = inside long-running refl;
         position-3 = inside (running 1 3) refl;
         position-4 = outside (running 1 4) refl;
         no-transfer = inside (resting 3 4) refl;

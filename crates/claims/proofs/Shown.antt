@@ -1,33 +1,28 @@
 -- What the answers show of the book: of the row machine, and of a machine that simulates it. Assumes nothing.
 use Prim.Native.Nat.{ℕ, _+_, _*_}
 use mathlib.Core.Path.{_≡_, refl, sym, ap, subst, _∙_}
-use mathlib.Core.Bool.{Bool, true, false, _&&_, _||_, not, false≢true}
+use mathlib.Core.Bool.{Bool, true, false, _&&_, _||_, not}
 use mathlib.Core.List.{List, [], _∷_}
-use lib.Dec.{eqb, leb, ltb}
+use lib.Dec.{eqb}
 use lib.ListN.{length, take, drop, getD}
 use borrow.Author.Tests.{eqb-true, eqb-false}
 use Rattle.laws.specs.Choice.{if_then_else_}
 use Rattle.laws.specs.Numbers.{weight}
 use Rattle.laws.proofs.Choice.{if-case, if-true, if-false, left-true, right-true}
-use Rattle.laws.proofs.Tests.{clash}
 use Rattle.calls.specs.declared.Call.{Call as Plain}
 use Rattle.calls.specs.declared.Call.the-variants.{Write, Read, SetBlock, SetWindow, SetExpected, PacketByte, Reset, Command, PacketWord, Status, Srst}
 use Rattle.reply.specs.declared.Reply.{Reply}
 use Rattle.sector.specs.Address.{valid}
-use Rattle.sector.specs.declared.Address.{Address}
 use Rattle.sector.specs.Judge.{good, tarsta-byte}
 use Rattle.sector.specs.Receive.{received}
 use Rattle.sector.specs.declared.Judgement.{Judgement}
 use Rattle.sector.proofs.Claims.{facts-hold}
-use Rattle.controller.specs.Bits.{bit, only, differs}
 use Rattle.controller.specs.Calls.{stepped}
 use Rattle.controller.specs.Decoder.{counted}
-use Rattle.controller.specs.Fields.{_▹_, mbc≔, running≔, received≔, receiving≔, fpkt≔}
-use Rattle.controller.specs.Host.{data-ended, ended, block-taken, host-word, host-command, packet-more, packet-word}
-use Rattle.controller.specs.Named.{set-block, window-fits, set-window, set-expected, packet-byte}
+use Rattle.controller.specs.Host.{host-word}
 use Rattle.controller.specs.Read.{read}
-use Rattle.controller.specs.Transfer.{engaged, start-switches, start-mbc, blocks-lacking, byte-count, start, completed, concluded}
-use Rattle.controller.specs.Write.{write-tack, write-ctrl0, write-mbtc0, write-astrg, write-asctrl, write-task, write-atsta, write-apksta, write-ascsta, write-bicctl, write-buflim, write-acctl, write-tcc, write-skipc, write-ttc, write}
+use Rattle.controller.specs.Transfer.{concluded}
+use Rattle.controller.specs.Write.{write-ctrl0, write}
 use Rattle.controller.specs.declared.state.Controller.{Controller}
 use Rattle.controller.specs.declared.state.Counts.{Counts}
 use Rattle.controller.specs.declared.step.RingFacts.{RingFacts}
@@ -41,229 +36,48 @@ use Rattle.chip.specs.Machine.{the-chip}
 use Rattle.claims.specs.Demand3.{masked}
 use Rattle.claims.specs.Refinement.{Simulation}
 use Rattle.claims.specs.Shown.{window-of, result, holding, held-after, Shows, Shows-run, Shown}
+use Rattle.claims.proofs.Kept.{clears, keeps, word-given}
 use Rattle.claims.proofs.Refines.{chip-simulates}
 use Rattle.claims.proofs.Simulated.{same-number}
 
--- Every call but a sector, 0Ah = 00h and a chip reset leaves held, in any controller
+-- Held after a call, in any controller
 
-record Keeps (c : Controller) (s : Step) : Type 0 where
-  held : s .controller .counts .held ≡ c .counts .held
+-- a step's held, as the call and the reply number have it
+abbrev By : Controller → Plain → Step → Type 0
+By c call s = s .controller .counts .held ≡ (if eqb (s .reply .number) 0 then holding (plain call) 0 (c .counts .held) else c .counts .held)
+
+kept-by : (c : Controller) (call : Plain) (ring : RingFacts) → clears call ≡ false → holding (plain call) 0 (c .counts .held) ≡ c .counts .held
+    → By c call (stepped c call ring)
+kept-by c call ring off e = keeps c call ring .held off ∙ by (eqb (stepped c call ring .reply .number) 0)
+  where
+    by : (b : Bool) → c .counts .held ≡ (if b then holding (plain call) 0 (c .counts .held) else c .counts .held)
+    by true = sym e
+    by false = refl
 
 module _ (c : Controller) where
-  same : {s : Step} → s .controller .counts .held ≡ c .counts .held → Keeps c s
-  same e = record { held = e }
-
-  either : (b : Bool) {x y : Step} → Keeps c x → Keeps c y → Keeps c (if b then x else y)
-  either true p q = p
-  either false p q = q
-
-  ends : (d : Controller) → ended d .counts ≡ d .counts
-  unfolding ended data-ended
-  ends d =
-      let halfway : data-ended d .counts ≡ d .counts =
-      if-case (λ (x : Controller). x .counts ≡ d .counts) (d .asctrl .adcen) _ _ (λ _. refl) (λ _. refl) in
-      if-case (λ (x : Controller). x .counts ≡ d .counts) (d .asctrl .ascen) (completed (data-ended d)) (data-ended d) (λ _. halfway) (λ _. halfway)
-
-  tack : (v : ℕ) → Keeps c (write-tack c v)
-  unfolding write-tack
-  tack v = either (ltb 255 v) (same refl) (same refl)
-
-  ctrl0 : (v : ℕ) → eqb v 0x00 ≡ false → Keeps c (write-ctrl0 c v)
-  unfolding write-ctrl0
-  ctrl0 v e =
-      if-case (Keeps c) (eqb v 0) _ _ (λ f. clash (eqb v 0) e f) (λ _.
-      either (not (eqb v 0x80)) (same refl) (either (not (c .buffering .blimen && c .acctl .tcincen)) (same refl) (same refl)))
-
-  mbtc0 : (v : ℕ) → Keeps c (write-mbtc0 c v)
-  unfolding write-mbtc0
-  mbtc0 v = either (ltb 31 v) (same refl) (either (c .transfer .running) (same refl) (same refl))
-
-  counted-bytes : (d : Controller) → byte-count d .counts ≡ d .counts
-  unfolding byte-count
-  counted-bytes d = if-case (λ (x : Controller). x .counts ≡ d .counts) (not (d .asctrl .stwcen)) _ _ (λ _. refl) (λ _. refl)
-
-  starts : Keeps c (start c)
-  unfolding start
-  starts =
-      either (not (start-switches c)) (same refl)
-      (either (blocks-lacking c) (same refl)
-      (same (ap (λ (k : Counts). k .held) (counted-bytes (c ▹ mbc≔ (start-mbc c))))))
-
-  astrg : (v : ℕ) → Keeps c (write-astrg c v)
-  unfolding write-astrg
-  astrg v =
-      either (not (eqb v 0x01 || eqb v 0x04 || eqb v 0x10)) (same refl)
-      (either (engaged c) (same refl)
-      (either (eqb v 0x01) (same refl) (either (eqb v 0x04) starts (same refl))))
-
-  asctrl : (v : ℕ) → Keeps c (write-asctrl c v)
-  unfolding write-asctrl
-  asctrl v = either (not (only (7 ∷ 6 ∷ 5 ∷ 4 ∷ 3 ∷ 0 ∷ []) v && (bit v 6 || not (bit v 5)))) (same refl) (either (engaged c) (same refl) (same refl))
-
-  task : (reg v : ℕ) → Keeps c (write-task c reg v)
-  unfolding write-task
-  task reg v = either (ltb 255 v) (same refl) (same refl)
-
-  atsta : (v : ℕ) → Keeps c (write-atsta c v)
-  unfolding write-atsta
-  atsta v = either (not (only (7 ∷ 6 ∷ 4 ∷ 2 ∷ 0 ∷ []) v)) (same refl) (either (engaged c) (same refl) (same refl))
-
-  apksta : (v : ℕ) → Keeps c (write-apksta c v)
-  unfolding write-apksta
-  apksta v = either (not (only (4 ∷ []) v)) (same refl) (same refl)
-
-  ascsta : (v : ℕ) → Keeps c (write-ascsta c v)
-  unfolding write-ascsta
-  ascsta v = either (not (only (6 ∷ 2 ∷ 0 ∷ []) v)) (same refl) (same refl)
-
-  bicctl : (v : ℕ) → Keeps c (write-bicctl c v)
-  unfolding write-bicctl
-  bicctl v = either (not (only (5 ∷ 4 ∷ []) v)) (same refl) (either (c .buffering .decen) (same refl) (same refl))
-
-  buflim : (v n : ℕ) → Keeps c (write-buflim c v n)
-  unfolding write-buflim
-  buflim v n = either (ltb n (v + 2)) (same refl) (either (c .buffering .decen) (same refl) (same refl))
-
-  acctl : (v : ℕ) → Keeps c (write-acctl c v)
-  unfolding write-acctl
-  acctl v =
-      either (ltb 255 v) (same refl)
-      (either (c .transfer .running) (same refl)
-      (either (c .buffering .decen && differs (bit v 5) (c .acctl .tcincen)) (same refl)
-      (either (bit v 6) (same refl) (same refl))))
-
-  lowered : (v : ℕ) → Keeps c (write-tcc c v)
-  unfolding write-tcc
-  lowered v =
-      either (ltb 255 v) (same refl)
-      (either (c .transfer .running) (same refl)
-      (either (c .buffering .decen) (same refl)
-      (either (ltb (c .counts .tcc) v) (same refl) (same refl))))
-
-  skipc : (v : ℕ) → Keeps c (write-skipc c v)
-  unfolding write-skipc
-  skipc v =
-      either (ltb 255 v) (same refl)
-      (either (c .transfer .running) (same refl)
-      (either (not (c .acctl .acmen)) (same refl)
-      (either (ltb (c .counts .tcc) v) (same refl) (same refl))))
-
-  ttc : (v : ℕ) → Keeps c (write-ttc c v)
-  unfolding write-ttc
-  ttc v =
-      either (ltb 255 v) (same refl)
-      (either (c .transfer .running) (same refl)
-      (either (not (c .acctl .acmen)) (same refl) (same refl)))
-
-  written : (reg v n : ℕ) → (eqb reg 0x0A && eqb v 0x00) ≡ false → Keeps c (write c reg v n)
-  unfolding write
-  written reg v n f =
-      either (eqb reg 0x07) (tack v)
-      (if-case (Keeps c) (eqb reg 0x0A) _ _ (λ e. ctrl0 v (second (eqb reg 0x0A) (eqb v 0x00) e f)) λ _.
-      either (eqb reg 0x12) (mbtc0 v)
-      (either (eqb reg 0x17) (astrg v)
-      (either (eqb reg 0x18) (asctrl v)
-      (either (eqb reg 0x31) (task reg v)
-      (either (eqb reg 0x32) (task reg v)
-      (either (eqb reg 0x34) (task reg v)
-      (either (eqb reg 0x35) (task reg v)
-      (either (eqb reg 0x37) (atsta v)
-      (either (eqb reg 0x3D) (apksta v)
-      (either (eqb reg 0x3E) (ascsta v)
-      (either (eqb reg 0x9A) (bicctl v)
-      (either (eqb reg 0x9B) (buflim v n)
-      (either (eqb reg 0x9C) (acctl v)
-      (either (eqb reg 0x9D) (lowered v)
-      (either (eqb reg 0x9E) (skipc v)
-      (either (eqb reg 0x9F) (ttc v) (same refl)))))))))))))))))
-    where
-      second : (a b : Bool) → a ≡ true → (a && b) ≡ false → b ≡ false
-      second true b e g = g
-      second false b e g = absurd (false≢true e)
-
-  reads : (reg : ℕ) (ring : RingFacts) → Keeps c (read c reg ring)
-  unfolding read
-  reads reg ring =
-      either (eqb reg 0x12) (same refl) (either (eqb reg 0x18) (same refl) (either (eqb reg 0x24) (same refl) (either (eqb reg 0x25) (same refl)
-      (either (eqb reg 0x30) (same refl) (either (eqb reg 0x31) (same refl) (either (eqb reg 0x32) (same refl) (either (eqb reg 0x34) (same refl)
-      (either (eqb reg 0x35) (same refl) (either (eqb reg 0x37) (same refl) (either (eqb reg 0x38) (same refl) (either (eqb reg 0x3A) (same refl)
-      (either (eqb reg 0x3B) (same refl) (either (eqb reg 0x80) (same refl) (either (eqb reg 0x9A) (same refl) (either (eqb reg 0x9B) (same refl)
-      (either (eqb reg 0x9C) (same refl) (either (eqb reg 0x9D) (same refl) (either (eqb reg 0x9F) (same refl) (same refl)))))))))))))))))))
-
-  block-set : (t n : ℕ) → Keeps c (set-block c t n)
-  unfolding set-block
-  block-set t n =
-      either (leb n t) (same refl)
-      (either (c .transfer .running) (same refl)
-      (either (c .buffering .decen || not (eqb (c .counts .tcc) 0)) (same refl) (same refl)))
-
-  window-set : (o w : ℕ) → Keeps c (set-window c o w)
-  unfolding set-window
-  window-set o w = either (not (window-fits o w)) (same refl) (either (c .transfer .running) (same refl) (same refl))
-
-  expected-set : (a : Address) → Keeps c (set-expected c a)
-  unfolding set-expected
-  expected-set a = either (not (valid a)) (same refl) (either (c .buffering .decen) (same refl) (same refl))
-
-  packet-read : (i : ℕ) → Keeps c (packet-byte c i)
-  unfolding packet-byte
-  packet-read i = either (ltb 11 i) (same refl) (either (not (c .packet .fpkt)) (same refl) (same refl))
-
-  commanded : (v : ℕ) → Keeps c (host-command c v)
-  unfolding host-command
-  commanded v =
-      either (ltb 255 v) (same refl)
-      (either (c .atsta .bsy || engaged c) (same refl)
-      (either (eqb v 0xA0 && c .asctrl .apkten) (same refl) (same refl)))
-
-  packet-given : (w : ℕ) → Keeps c (packet-word c w)
-  unfolding packet-word
-  packet-given w =
-      either (not (c .packet .receiving)) (same refl)
-      (either (ltb (c .packet .received) 5) (same refl)
-      (same (ap (λ (k : Counts). k .held) (ends (packet-more c w ▹ received≔ 0 ▹ receiving≔ false ▹ fpkt≔ true)))))
-
-  word-given : Keeps c (host-word c)
-  unfolding host-word
-  word-given =
-      either (not (c .transfer .running)) (same refl)
-      (either (ltb (c .transfer .position + 1) (c .window .words)) (same refl)
-      (either (ltb 1 (c .transfer .left)) (same refl)
-      (same (ap (λ (k : Counts). k .held) (ends (block-taken c ▹ running≔ false))))))
-
-  -- a step's held, as the call and the reply number have it
-  abbrev By : Plain → Step → Type 0
-  By call s = s .controller .counts .held ≡ (if eqb (s .reply .number) 0 then holding (plain call) 0 (c .counts .held) else c .counts .held)
-
-  kept-by : (call : Plain) (s : Step) → Keeps c s → holding (plain call) 0 (c .counts .held) ≡ c .counts .held → By call s
-  kept-by call s k e = k .held ∙ by (eqb (s .reply .number) 0)
-    where
-      by : (b : Bool) → c .counts .held ≡ (if b then holding (plain call) 0 (c .counts .held) else c .counts .held)
-      by true = sym e
-      by false = refl
-
-  decoder-off : (n : ℕ) → By (Write 0x0A 0x00) (write c 0x0A 0x00 n)
+  decoder-off : (n : ℕ) → By c (Write 0x0A 0x00) (write c 0x0A 0x00 n)
   unfolding write write-ctrl0
   decoder-off n = refl
 
-  write-held : (reg v n : ℕ) → By (Write reg v) (write c reg v n)
-  write-held reg v n = by (eqb reg 0x0A && eqb v 0x00) refl
-    where
-      by : (b : Bool) → (eqb reg 0x0A && eqb v 0x00) ≡ b → By (Write reg v) (write c reg v n)
-      by true e = rw (eqb-true reg 0x0A (left-true (eqb reg 0x0A) (eqb v 0x00) e), eqb-true v 0x00 (right-true (eqb reg 0x0A) (eqb v 0x00) e)) (decoder-off n)
-      by false e = kept-by (Write reg v) _ (written reg v n e) (rw e refl)
-
-  steps-held : (call : Plain) (ring : RingFacts) → By call (stepped c call ring)
+  write-held : (reg v : ℕ) (ring : RingFacts) → By c (Write reg v) (stepped c (Write reg v) ring)
   unfolding stepped
-  steps-held (Write reg v) ring = write-held reg v (ring .n)
-  steps-held (Read reg) ring = kept-by (Read reg) _ (reads reg ring) refl
-  steps-held (SetBlock t) ring = kept-by (SetBlock t) _ (block-set t (ring .n)) refl
-  steps-held (SetWindow o w) ring = kept-by (SetWindow o w) _ (window-set o w) refl
-  steps-held (SetExpected a) ring = kept-by (SetExpected a) _ (expected-set a) refl
-  steps-held (PacketByte i) ring = kept-by (PacketByte i) _ (packet-read i) refl
+  write-held reg v ring = by (eqb reg 0x0A && eqb v 0x00) refl
+    where
+      by : (b : Bool) → (eqb reg 0x0A && eqb v 0x00) ≡ b → By c (Write reg v) (stepped c (Write reg v) ring)
+      by true e = rw (eqb-true reg 0x0A (left-true (eqb reg 0x0A) (eqb v 0x00) e), eqb-true v 0x00 (right-true (eqb reg 0x0A) (eqb v 0x00) e)) (decoder-off (ring .n))
+      by false e = kept-by c (Write reg v) ring e (rw e refl)
+
+  steps-held : (call : Plain) (ring : RingFacts) → By c call (stepped c call ring)
+  unfolding stepped
+  steps-held (Write reg v) ring = write-held reg v ring
+  steps-held (Read reg) ring = kept-by c (Read reg) ring refl refl
+  steps-held (SetBlock t) ring = kept-by c (SetBlock t) ring refl refl
+  steps-held (SetWindow o w) ring = kept-by c (SetWindow o w) ring refl refl
+  steps-held (SetExpected a) ring = kept-by c (SetExpected a) ring refl refl
+  steps-held (PacketByte i) ring = kept-by c (PacketByte i) ring refl refl
   steps-held Reset ring = refl
-  steps-held (Command v) ring = kept-by (Command v) _ (commanded v) refl
-  steps-held (PacketWord w) ring = kept-by (PacketWord w) _ (packet-given w) refl
+  steps-held (Command v) ring = kept-by c (Command v) ring refl refl
+  steps-held (PacketWord w) ring = kept-by c (PacketWord w) ring refl refl
   steps-held Status ring = refl
   steps-held Srst ring = refl
 
@@ -326,7 +140,7 @@ row-held (plain c) s =
 row-held (sector x) s = sector-held x s
 row-held look s = refl
 row-held word s =
-    ap (λ (k : Counts). k .held) (concluded-counts (host-word (s .controller))) ∙ word-given (s .controller) .held ∙ same-held (number (word-answered (word-step s) s)) (s .controller .counts .held)
+    ap (λ (k : Counts). k .held) (concluded-counts (host-word (s .controller))) ∙ word-given (s .controller) false .held refl ∙ same-held (number (word-answered (word-step s) s)) (s .controller .counts .held)
 
 -- The answers of a valid row
 

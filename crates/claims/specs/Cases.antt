@@ -2,9 +2,10 @@
 -- chip that meets them; CasesMet says that for each such row a list of calls leads from an opened chip to one. Assumes nothing.
 use Prim.Native.Nat.{ℕ, _*_, _≤_}
 use mathlib.Core.Path.{_≡_}
-use mathlib.Core.Bool.{true, false}
+use mathlib.Core.Bool.{Bool, true, false}
 use mathlib.Core.List.{List}
 use lib.ListN.{length}
+use Rattle.calls.specs.declared.Call.{Call as Plain}
 use Rattle.calls.specs.declared.Call.the-variants.{Write, SetWindow}
 use Rattle.sector.specs.Judge.{good}
 use Rattle.sector.specs.Receive.{received}
@@ -51,19 +52,42 @@ pub record Given8 (c : Chip) : Type 0 where
   pub acmen : c .controller .acctl .acmen ≡ true
   pub two : c .controller .counts .tcc ≡ 2
 
--- P9: TCC 2, TTC 5, ATLIM 0, 1,024 words, STWCEN; and what a start needs
-pub record Given9 (c : Chip) : Type 0 where
+-- P9, and every other start: what it goes by
+pub record Asked : Type 0 where
+  pub tcc : ℕ
+  pub ttc : ℕ
+  pub mbc : ℕ
+  pub atlim : ℕ
+  pub words : ℕ
+  pub stwcen : Bool
+
+-- a chip with these, and the rest of what a start needs
+pub record GivenStart (c : Chip) (a : Asked) : Type 0 where
   pub sound-record : sound c ≡ true
   pub idle : c .controller .transfer .running ≡ false
   pub unreceiving : c .controller .packet .receiving ≡ false
   pub acmen : c .controller .acctl .acmen ≡ true
   pub adcen : c .controller .asctrl .adcen ≡ true
   pub bsy : c .controller .atsta .bsy ≡ true
-  pub two : c .controller .counts .tcc ≡ 2
-  pub five : c .controller .counts .ttc ≡ 5
-  pub atlim : c .controller .acctl .atlim ≡ 0
-  pub words : c .controller .window .words ≡ 1024
-  pub stwcen : c .controller .asctrl .stwcen ≡ true
+  pub tcc : c .controller .counts .tcc ≡ a .tcc
+  pub ttc : c .controller .counts .ttc ≡ a .ttc
+  pub mbc : c .controller .mbc ≡ a .mbc
+  pub atlim : c .controller .acctl .atlim ≡ a .atlim
+  pub words : c .controller .window .words ≡ a .words
+  pub stwcen : c .controller .asctrl .stwcen ≡ a .stwcen
+
+-- the call is done; then 12h (MBC), 35h (ATBHI) and 34h (ATBLO) are these
+abbrev pub Leaves : Chip → Plain → ℕ → ℕ → ℕ → Type 0
+Leaves c call mbc high low =
+    (number (called c call) ≡ 0) × (afterwards (called c call) .mbc ≡ mbc)
+    × (afterwards (called c call) .task .atbhi ≡ high) × (afterwards (called c call) .task .atblo ≡ low)
+
+abbrev pub Starts : Chip → ℕ → ℕ → ℕ → Type 0
+Starts c = Leaves c (Write 0x17 0x04)
+
+-- with TTC set, where MBC has no part in it
+abbrev pub with-ttc : ℕ → ℕ → ℕ → ℕ → Bool → ℕ → Asked
+with-ttc tcc ttc atlim words stwcen mbc = record { tcc = tcc; ttc = ttc; mbc = mbc; atlim = atlim; words = words; stwcen = stwcen }
 
 -- P10: expected 00:02:74, a good sector; and what a sector needs
 pub record Given10 (c : Chip) (ring s : List ℕ) : Type 0 where
@@ -100,9 +124,7 @@ pub record Cases : Type 0 where
       → (number (called c (Write 0x9E 2)) ≡ 0) × (afterwards (called c (Write 0x9E 2)) .counts .tcc ≡ 0)
       × (called c (Write 0x9E 3) ≡ refused c 6)
   -- TCC 2, TTC 5, ATLIM 0, 1,024 words, STWCEN, start: MBC 1, 35h=10h (ATBHI), 34h=00h (ATBLO)
-  pub p9 : (c : Chip) → Given9 c
-      → (number (called c (Write 0x17 0x04)) ≡ 0) × (afterwards (called c (Write 0x17 0x04)) .mbc ≡ 1)
-      × (afterwards (called c (Write 0x17 0x04)) .task .atbhi ≡ 0x10) × (afterwards (called c (Write 0x17 0x04)) .task .atblo ≡ 0x00)
+  pub p9 : (c : Chip) (m : ℕ) → GivenStart c (with-ttc 2 5 0 1024 true m) → Starts c 1 0x10 0x00
   -- expected 00:02:74, good sector: then 00:03:00
   pub p10 : (c : Chip) (ring s : List ℕ) → Given10 c ring s
       → (number (sector-told c ring s) ≡ 0) × (sector-told c ring s .reply .result ≡ 0)
@@ -125,5 +147,5 @@ pub record CasesMet : Type 0 where
   pub reach4 : Reachable (λ s. Given4 (s .chip))
   pub reach7 : Reachable (λ s. Given7 (s .chip))
   pub reach8 : Reachable (λ s. Given8 (s .chip))
-  pub reach9 : Reachable (λ s. Given9 (s .chip))
+  pub reach9 : Reachable (λ s. GivenStart (s .chip) (with-ttc 2 5 0 1024 true 0))
   pub reach10 : Reachable (λ s. (x : List ℕ) × Given10 (s .chip) (s .ring) x)

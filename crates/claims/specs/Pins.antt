@@ -1,8 +1,7 @@
 -- A table beside the bench cases, with the numbers written out: what no other claim would notice if code and definition had it wrong alike (paper
--- 01, "Reply numbers", "The ring", "Host and transfers"; paper 02, ask 1). Starts with ATLIM 0 and their byte counts, a sector with a wrong code, the
--- facts that are kept, looks at an offset, lent rings of a wrong size, a refused opening, and for each test of soundness a record just outside it and
--- one just inside. A row with conditions holds of every chip that meets them; PinsMet says that there are such, and that calls lead to them. Assumes
--- nothing.
+-- 01, "Reply numbers", "The ring"; paper 02, ask 1). A sector with a wrong code, the facts that are kept, looks at an offset, lent rings of a wrong size,
+-- a refused opening, and for each test of soundness a record just outside it and one just inside. A row with conditions holds of every chip that meets
+-- them; PinsMet says that there are such, and that calls lead to them. Starts have a table of their own. Assumes nothing.
 use Prim.Native.Nat.{ℕ, _+_, _*_, _<_, _≤_}
 use mathlib.Core.Path.{_≡_}
 use mathlib.Core.Bool.{true, false}
@@ -10,7 +9,7 @@ use mathlib.Core.List.{List, [], _∷_, _++_}
 use mathlib.Core.Logic.{_⊎_}
 use lib.ListN.{length, take, drop, getD, set}
 use Rattle.calls.specs.declared.Call.{Call as Plain}
-use Rattle.calls.specs.declared.Call.the-variants.{Write, Reset, Status}
+use Rattle.calls.specs.declared.Call.the-variants.{Reset, Status}
 use Rattle.laws.specs.Bytes.{Bytes}
 use Rattle.scramble.specs.Scramble.{scrambled}
 use Rattle.sector.specs.Sector.{encoded}
@@ -26,30 +25,8 @@ use Rattle.chip.specs.Calls.{called, lent, sector-lent, looked, word-told}
 use Rattle.chip.specs.Machine.{the-chip}
 use Rattle.chip.specs.declared.Chip.{Chip}
 use Rattle.chip.specs.declared.Word.the-variants.{Refused}
-use Rattle.claims.specs.Cases.{number, afterwards, address, Reachable}
+use Rattle.claims.specs.Cases.{number, address, Reachable}
 use Rattle.claims.specs.Runs.{read, set-window, srst, disc, set-up, restart, transfer, ok, Gives, telling-why}
-
--- Starts
-
--- what a start needs, with STWCEN and a window of 1,176 words; TCC and TTC are the same
-pub record GivenStart (c : Chip) (blocks atlim : ℕ) : Type 0 where
-  pub sound-record : sound c ≡ true
-  pub idle : c .controller .transfer .running ≡ false
-  pub unreceiving : c .controller .packet .receiving ≡ false
-  pub acmen : c .controller .acctl .acmen ≡ true
-  pub adcen : c .controller .asctrl .adcen ≡ true
-  pub bsy : c .controller .atsta .bsy ≡ true
-  pub tcc : c .controller .counts .tcc ≡ blocks
-  pub ttc : c .controller .counts .ttc ≡ blocks
-  pub limit : c .controller .acctl .atlim ≡ atlim
-  pub words : c .controller .window .words ≡ 1176
-  pub stwcen : c .controller .asctrl .stwcen ≡ true
-
--- the start is done; then 12h (MBC), 35h (ATBHI) and 34h (ATBLO) are these
-abbrev pub Starts : Chip → ℕ → ℕ → ℕ → Type 0
-Starts c mbc high low =
-    (number (called c (Write 0x17 0x04)) ≡ 0) × (afterwards (called c (Write 0x17 0x04)) .mbc ≡ mbc)
-    × (afterwards (called c (Write 0x17 0x04)) .task .atbhi ≡ high) × (afterwards (called c (Write 0x17 0x04)) .task .atblo ≡ low)
 
 -- Looks
 
@@ -108,6 +85,13 @@ abbrev pub running : ℕ → ℕ → Chip
 running left position =
     five (initial ▹ tcc≔ 2 ▹ bufc≔ 2 ▹ window≔ (record { offset = 16; words = 4 }) ▹ transfer≔ (record { running = true; left = left; position = position }))
 
+-- one of 32 blocks of 1,024 words, in a ring of 40 blocks
+abbrev pub long-running : Chip
+long-running =
+    chip
+    (initial ▹ tcc≔ 32 ▹ bufc≔ 32 ▹ window≔ (record { offset = 16; words = 1024 }) ▹ transfer≔ (record { running = true; left = 32; position = 0 }))
+    (at 40 0 32 31)
+
 -- one that does not run
 abbrev pub resting : ℕ → ℕ → Chip
 resting left position = five (initial ▹ transfer≔ (record { running = false; left = left; position = position }))
@@ -126,12 +110,6 @@ pub record Inside (c : Chip) : Type 0 where
 -- The table
 
 pub record Pins : Type 0 where
-  -- ATLIM 0, TCC and TTC 20: MBC 19, and 47,040 bytes are B7C0h
-  pub twenty : (c : Chip) → GivenStart c 20 0 → Starts c 19 0xB7 0xC0
-  -- ATLIM 0, TCC and TTC 40: MBC 31, and of 75,264 bytes (12600h) the low sixteen bits
-  pub forty : (c : Chip) → GivenStart c 40 0 → Starts c 31 0x26 0x00
-  -- ATLIM 31: MBC 30, and of 72,912 bytes (11CD0h) the low sixteen bits
-  pub thirty-one : (c : Chip) → GivenStart c 40 31 → Starts c 30 0x1C 0xD0
   -- one changed byte, 16 to 2,067: STAERR alone is the result, 80h reads it, TCC is as before, BUFC one more, and the next sector is answered 8
   pub wrong-code : (u : List ℕ) (k v : ℕ) → GivenCode u k v
       → Gives the-chip 3
@@ -192,6 +170,8 @@ pub record Pins : Type 0 where
   pub left-1 : Inside (running 1 0)
   pub left-2 : Inside (running 2 0)
   pub left-3 : Outside (running 3 0)
+  -- blocks left are not held to the bound of a start: 32 of 1,024 words are 65,536 bytes
+  pub left-32 : Inside long-running
   pub position-3 : Inside (running 1 3)
   pub position-4 : Outside (running 1 4)
   pub no-transfer : Inside (resting 3 4)
@@ -212,8 +192,5 @@ pub record Pins : Type 0 where
 -- The conditions are met
 
 pub record PinsMet : Type 0 where
-  pub reach-20 : Reachable (λ s. GivenStart (s .chip) 20 0)
-  pub reach-40 : Reachable (λ s. GivenStart (s .chip) 40 0)
-  pub reach-31 : Reachable (λ s. GivenStart (s .chip) 40 31)
   pub reach-code : (u : List ℕ) × (k : ℕ) × (v : ℕ) × GivenCode u k v
   pub reach-look : Reachable (λ s. GivenLook (s .chip) (s .ring))

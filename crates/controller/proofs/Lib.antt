@@ -1,1 +1,2 @@
--- No lemma is shared: each proof stands with its function.
+-- What is known of a start; every other proof stands with its function.
+pub mod Starts

@@ -1,4 +1,4 @@
--- Transfers (paper 01, "Host and transfers"; 001, ASTRG (17h), ACCTL (9Ch), TTC (9Fh); SFF-8020 for the interrupt reasons). Assumes nothing.
+-- Transfers (paper 01, "Host and transfers"; paper 02, ask 3; 001, ASTRG (17h), ACCTL (9Ch), TTC (9Fh); SFF-8020 for the interrupt reasons). Assumes nothing.
 use Prim.Native.Nat.{ℕ, _+_, _-_, _*_, _/_, _%_, min}
 use mathlib.Core.Bool.{Bool, true, false, _&&_, _||_, not}
 use mathlib.Core.List.{[], _∷_}
@@ -21,27 +21,35 @@ start-switches c = c .acctl .acmen && c .asctrl .adcen && not (eqb (c .window .w
 abbrev pub limit : Controller → ℕ
 limit c = if eqb (c .acctl .atlim) 0 then 32 else c .acctl .atlim
 
--- if TTC is not 0, MBC takes the least of ATLIM, TCC and TTC, less 1
-abbrev pub start-mbc : Controller → ℕ
-start-mbc c = if eqb (c .counts .ttc) 0 then c .mbc else min (limit c) (min (c .counts .tcc) (c .counts .ttc)) - 1
+-- the most blocks of so many words whose bytes do not pass 65,534 (paper 02, ask 3)
+abbrev pub most-blocks : ℕ → ℕ
+most-blocks words = 65534 / (words * 2)
 
--- TCC is 0, or MBC+1 is above it
+-- the blocks that are asked for: MBC+1, or if TTC is not 0 the least of ATLIM, TCC and TTC
+abbrev pub blocks-asked : Controller → ℕ
+blocks-asked c = if eqb (c .counts .ttc) 0 then c .mbc + 1 else min (limit c) (min (c .counts .tcc) (c .counts .ttc))
+
+-- the blocks of a start: those, but not above the bound
+abbrev pub start-blocks : Controller → ℕ
+start-blocks c = min (blocks-asked c) (most-blocks (c .window .words))
+
+-- TCC is 0, which leaves a start no block, or is below the blocks of the start
 abbrev pub blocks-lacking : Controller → Bool
-blocks-lacking c = eqb (c .counts .tcc) 0 || ltb (c .counts .tcc) (start-mbc c + 1)
+blocks-lacking c = eqb (start-blocks c) 0 || ltb (c .counts .tcc) (start-blocks c)
 
--- with STWCEN 35h/34h take the low sixteen bits of (MBC+1) times words times 2
+-- with STWCEN 35h/34h take (MBC+1) times words times 2
 unfoldable pub byte-count : Controller → Controller
 byte-count c =
     if not (c .asctrl .stwcen) then c
-    else c ▹ atblo≔ ((c .mbc + 1) * c .window .words * 2 % 256) ▹ atbhi≔ ((c .mbc + 1) * c .window .words * 2 / 256 % 256)
+    else c ▹ atblo≔ ((c .mbc + 1) * c .window .words * 2 % 256) ▹ atbhi≔ ((c .mbc + 1) * c .window .words * 2 / 256)
 
 -- MBC+1 blocks begin to be transferred: 32h=02h, DRQ=1, BSY=0, HIRQ=1
 abbrev pub begun : Controller → Controller
 begun c = c ▹ atint≔ 2 ▹ drq≔ true ▹ bsy≔ false ▹ hirq≔ true ▹ running≔ true ▹ left≔ (c .mbc + 1) ▹ position≔ 0
 
--- a start whose needs hold
+-- a start whose needs hold: MBC becomes its blocks less 1
 abbrev pub started : Controller → Controller
-started c = begun (byte-count (c ▹ mbc≔ (start-mbc c)))
+started c = begun (byte-count (c ▹ mbc≔ (start-blocks c - 1)))
 
 -- the start by 17h, where it is not barred
 unfoldable pub start : Controller → Step

@@ -4,11 +4,10 @@ use crate::step::Step;
 use crate::step::done;
 use crate::step::refuse;
 use numbers::least;
-use numbers::less;
 use numbers::wide;
 ghost use mathlib.Core.Path.{_≡_};
-ghost use Prim.Native.Nat.{_<_};
-ghost use Rattle.controller.specs.Transfer.{engaged, start-switches, limit, start-mbc, blocks-lacking, byte-count, begun, start, settled, concluded, completed, signed};
+ghost use Prim.Native.Nat.{_+_, _*_, _<_, _≤_};
+ghost use Rattle.controller.specs.Transfer.{engaged, start-switches, limit, blocks-asked, start-blocks, byte-count, begun, start, settled, concluded, completed, signed};
 
 impl Controller {
     pub fn engaged(self) -> bool
@@ -32,32 +31,34 @@ impl Controller {
         wide(self.acctl.atlim)
     }
 
-    // The MBC with which a start begins.
-    fn start_mbc(self) -> u8
-        ensures { λ r. ⌜ r ≡ start-mbc self ⌝ }
+    fn blocks_asked(self) -> u16
+        ensures { λ r. ⌜ (r ≡ blocks-asked self) × (r ≤ 256) ⌝ }
     {
         if self.counts.ttc == 0 {
-            return self.mbc;
+            return self.mbc as u16 + 1;
         }
-        let blocks = least(self.limit(), least(self.counts.tcc, self.counts.ttc));
-        less(blocks, 1) as u8
+        least(self.limit(), least(self.counts.tcc, self.counts.ttc))
     }
 
-    fn blocks_lacking(self) -> bool
-        ensures { λ r. ⌜ r ≡ blocks-lacking self ⌝ }
+    // The blocks of a start that has a window: bytes come by two, so that the bound of 65,534 is one of 32,767 words.
+    fn start_blocks(self) -> u16
+        requires { ⌜ 0 < self .window .words ⌝ }
+        ensures { λ r. ⌜ (r ≡ start-blocks self) × (r ≤ 256) ⌝ }
     {
-        (self.counts.tcc == 0) | (self.counts.tcc < wide(self.start_mbc()) + 1)
+        least(self.blocks_asked(), 32767 / self.window.words)
     }
 
+    // The count fits in its two registers.
     fn byte_count(mut self) -> Controller
+        requires { ⌜ (self .mbc + 1) * self .window .words * 2 < 65536 ⌝ }
         ensures { λ r. ⌜ r ≡ byte-count self ⌝ }
     {
         if !self.asctrl.stwcen {
             return self;
         }
-        let bytes = (self.mbc as u32 + 1) * self.window.words as u32 * 2;
+        let bytes = (self.mbc as u16 + 1) * self.window.words * 2;
         let low = (bytes % 256) as u8;
-        let high = (bytes / 256 % 256) as u8;
+        let high = (bytes / 256) as u8;
         self.task.atblo = low;
         self.task.atbhi = high;
         self
@@ -84,10 +85,11 @@ impl Controller {
         if !self.start_switches() {
             return refuse(self, 5);
         }
-        if self.blocks_lacking() {
+        let blocks = self.start_blocks();
+        if (blocks == 0) | (self.counts.tcc < blocks) {
             return refuse(self, 6);
         }
-        let mbc = self.start_mbc();
+        let mbc = (blocks - 1) as u8;
         self.mbc = mbc;
         done(self.byte_count().begun())
     }

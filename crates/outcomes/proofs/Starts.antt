@@ -1,21 +1,22 @@
 -- A start keeps a controller consistent, and after it none is due; what a start leaves alone. Assumes nothing.
-use Prim.Native.Nat.{ℕ, _+_, _-_, _*_, _/_, _%_, _<_, _≤_, min}
+use Prim.Native.Nat.{ℕ, _+_, _-_, _*_, _/_, _%_, _≤_, min}
 use mathlib.Core.Path.{_≡_, refl, sym, ap, _∙_}
 use mathlib.Core.Bool.{true, false, _&&_, not}
 use mathlib.Core.List.{List}
-use mathlib.Core.Logic.{_⊎_, inl, inr}
+use mathlib.Core.Logic.{_⊎_, inl, inr, ⊎-elim}
 use native.Mathlib.Omega.{arith}
-use lib.Dec.{eqb, ltb}
-use borrow.Author.Tests.{ltb-false, eqb-true, eqb-false, not-true}
+use lib.Dec.{eqb}
+use borrow.Author.Tests.{eqb-true, not-true}
 use Rattle.laws.specs.Choice.{if_then_else_}
 use Rattle.laws.proofs.Choice.{if-case, if-false, right-false}
 use Rattle.laws.proofs.Tests.{clash, and3, and4, or-false, if-not}
 use Rattle.controller.specs.Fields.{_▹_, mbc≔, atint≔, atblo≔, atbhi≔, drq≔, bsy≔, hirq≔, transfer≔}
 use Rattle.controller.specs.State.{initial}
 use Rattle.controller.specs.Step.{refused, done}
-use Rattle.controller.specs.Transfer.{engaged, start-switches, limit, start-mbc, blocks-lacking, byte-count, begun, started, start, settled}
+use Rattle.controller.specs.Transfer.{engaged, start-switches, limit, blocks-asked, start-blocks, blocks-lacking, byte-count, begun, started, start, settled}
 use Rattle.controller.specs.declared.state.Controller.{Controller}
 use Rattle.controller.specs.declared.step.Step.{Step}
+use Rattle.controller.proofs.Starts.{windowed, some, enough}
 use Rattle.outcomes.specs.Book.{Book, book-of, k≔}
 use Rattle.outcomes.specs.Invariant.{Consistent, Invariant}
 use Rattle.outcomes.proofs.Consistent.{consistent-like, consistent-initial}
@@ -31,10 +32,10 @@ split-start P c p1 p2 p3 =
     if-not P _ _ _ p1 λ e1.
     if-case P _ _ _ (p2 e1) (p3 e1)
 
-split-byte-count :
+pub split-byte-count :
     (P : Controller → Type 0) (c : Controller)
     → (c .asctrl .stwcen ≡ false → P c)
-    → (c .asctrl .stwcen ≡ true → P (c ▹ atblo≔ ((c .mbc + 1) * c .window .words * 2 % 256) ▹ atbhi≔ ((c .mbc + 1) * c .window .words * 2 / 256 % 256)))
+    → (c .asctrl .stwcen ≡ true → P (c ▹ atblo≔ ((c .mbc + 1) * c .window .words * 2 % 256) ▹ atbhi≔ ((c .mbc + 1) * c .window .words * 2 / 256)))
     → P (byte-count c)
 unfolding byte-count
 split-byte-count P c p1 p2 = if-not P _ _ _ p1 p2
@@ -61,20 +62,17 @@ split-settled P c f g =
 limit-le : (c : Controller) → c .acctl .atlim ≤ 31 → limit c ≤ 32
 limit-le c h = if-case (λ (n : ℕ). n ≤ 32) (eqb (c .acctl .atlim) 0) 32 (c .acctl .atlim) (λ _. omega arith) (λ _. omega arith)
 
-mbc-le : (c : Controller) → Consistent c → start-mbc c ≤ 31
-mbc-le c h =
-    if-case (λ (n : ℕ). n ≤ 31) (eqb (c .counts .ttc) 0) (c .mbc) (min (limit c) (min (c .counts .tcc) (c .counts .ttc)) - 1)
-    (λ _. h .mbc)
-    (λ _. let l = limit-le c (h .atlim) in omega arith)
+asked-le : (c : Controller) → Consistent c → blocks-asked c ≤ 32
+asked-le c h =
+    if-case (λ (n : ℕ). n ≤ 32) (eqb (c .counts .ttc) 0) (c .mbc + 1) (min (limit c) (min (c .counts .tcc) (c .counts .ttc)))
+    (λ _. omega (arith, h .mbc))
+    (λ _. omega (arith, limit-le c (h .atlim)))
 
-mbc-total : (c : Controller) → (c .counts .ttc ≡ 0) ⊎ (start-mbc c + 1 ≤ c .counts .ttc)
-mbc-total c =
-    if-case (λ (n : ℕ). (c .counts .ttc ≡ 0) ⊎ (n + 1 ≤ c .counts .ttc)) (eqb (c .counts .ttc) 0) (c .mbc) (min (limit c) (min (c .counts .tcc) (c .counts .ttc)) - 1)
-    (λ (e : eqb (c .counts .ttc) 0 ≡ true). inl (eqb-true _ _ e))
-    (λ (e : eqb (c .counts .ttc) 0 ≡ false). let some = eqb-false (c .counts .ttc) 0 e in inr (omega arith))
-
-mbc-enough : (c : Controller) → blocks-lacking c ≡ false → start-mbc c + 1 ≤ c .counts .tcc
-mbc-enough c e = ltb-false _ _ (or-false (eqb (c .counts .tcc) 0) (ltb (c .counts .tcc) (start-mbc c + 1)) e .1)
+asked-total : (c : Controller) → (c .counts .ttc ≡ 0) ⊎ (blocks-asked c ≤ c .counts .ttc)
+asked-total c =
+    if-case (λ (n : ℕ). (c .counts .ttc ≡ 0) ⊎ (n ≤ c .counts .ttc)) (eqb (c .counts .ttc) 0) (c .mbc + 1) (min (limit c) (min (c .counts .tcc) (c .counts .ttc)))
+    (λ e. inl (eqb-true _ _ e))
+    (λ _. inr (omega arith))
 
 -- MBC+1 blocks begin
 consistent-begun :
@@ -83,8 +81,6 @@ consistent-begun :
 consistent-begun c q s tcc ttc h =
     let idle = or-false (c .transfer .running) (c .packet .receiving) q in
     let on = and4 (c .acctl .acmen) (c .asctrl .adcen) (not (eqb (c .window .words) 0)) (c .atsta .bsy) s in
-    let words = eqb-false (c .window .words) 0 (not-true (eqb (c .window .words) 0) (on .2)) in
-    let room : 0 < c .window .words = omega arith in
     let m = h .mbc in
     record {
       ttc = h .ttc;
@@ -97,7 +93,7 @@ consistent-begun c q s tcc ttc h =
       buffered = h .buffered;
       held = h .held;
       decen = h .decen;
-      running = λ _. record { some = omega arith; good = tcc; inside = room; acmen = on .0; adcen = on .1; drq = refl; bsy = refl; blocks = omega arith; total = ttc };
+      running = λ _. record { some = omega arith; good = tcc; inside = windowed c s; acmen = on .0; adcen = on .1; drq = refl; bsy = refl; blocks = omega arith; total = ttc };
       idle = λ (e : true ≡ false). clash true e refl;
       receiving = λ e. clash (c .packet .receiving) (idle .1) e;
       uncached = h .uncached;
@@ -105,10 +101,11 @@ consistent-begun c q s tcc ttc h =
 
 pub consistent-started : (c : Controller) → engaged c ≡ false → start-switches c ≡ true → blocks-lacking c ≡ false → Consistent c → Consistent (started c)
 consistent-started c q s e h =
-    let x = c ▹ mbc≔ (start-mbc c) in
+    let x = c ▹ mbc≔ (start-blocks c - 1) in
+    let one = some c e in
     let hx : Consistent x = record {
       ttc = h .ttc;
-      mbc = mbc-le c h;
+      mbc = omega (arith, asked-le c h);
       atlim = h .atlim;
       received = h .received;
       expected = h .expected;
@@ -122,10 +119,12 @@ consistent-started c q s e h =
       receiving = h .receiving;
       uncached = h .uncached;
     } in
-    let b : Consistent (begun x) = consistent-begun x q s (mbc-enough c e) (mbc-total c) hx in
+    let good : start-blocks c - 1 + 1 ≤ c .counts .tcc = omega (arith, enough c e) in
+    let total = ⊎-elim {C = (c .counts .ttc ≡ 0) ⊎ (start-blocks c - 1 + 1 ≤ c .counts .ttc)} inl (λ h. inr (omega arith)) (asked-total c) in
+    let b : Consistent (begun x) = consistent-begun x q s good total hx in
     split-byte-count (λ (y : Controller). Consistent (begun y)) x
     (λ _. b)
-    (λ _. consistent-like (begun x) (begun (x ▹ atblo≔ ((x .mbc + 1) * x .window .words * 2 % 256) ▹ atbhi≔ ((x .mbc + 1) * x .window .words * 2 / 256 % 256))) refl b)
+    (λ _. consistent-like (begun x) (begun (x ▹ atblo≔ ((x .mbc + 1) * x .window .words * 2 % 256) ▹ atbhi≔ ((x .mbc + 1) * x .window .words * 2 / 256))) refl b)
 
 -- c without what a start may change
 abbrev pub unstarted : Controller → Controller
@@ -134,7 +133,7 @@ unstarted c =
 
 pub started-same : (c : Controller) → unstarted (started c) ≡ unstarted c
 started-same c =
-    split-byte-count (λ (x : Controller). unstarted x ≡ unstarted c) (c ▹ mbc≔ (start-mbc c)) (λ _. refl) (λ _. refl)
+    split-byte-count (λ (x : Controller). unstarted x ≡ unstarted c) (c ▹ mbc≔ (start-blocks c - 1)) (λ _. refl) (λ _. refl)
 
 pub settled-same : (c : Controller) → unstarted (settled c) ≡ unstarted c
 settled-same c = split-settled (λ (x : Controller). unstarted x ≡ unstarted c) c (λ _ _ _. started-same c) (λ _. refl)

@@ -94,7 +94,8 @@ pub use refusal::Refusal;
 pub use sectors::{edc, judge, open, parity, seal, Address, Facts, Verdict, SECTOR_BYTES, USER_BYTES, USER_OFFSET};
 pub use sectors::{WHY_ADDRESS, WHY_EDC, WHY_MODE, WHY_SYNC};
 
-/// The version of `include/cdrom.h` that this crate declares. Since 3 [`seal`] writes the parity, and [`parity`] checks
-/// it. Since 2 [`judge`] gives [`Facts`] and [`Chip::why`] those of the last sector, and a [`Record`] that was kept
-/// under 1 must not be handed over.
-pub const VERSION: u32 = 3;
+/// The version of `include/cdrom.h` that this crate declares. Since 4 the bytes of a start do not pass 65,534
+/// ([`ADTT`](registers::ADTT)). Since 3 [`seal`] writes the parity, and [`parity`] checks it. Since 2 [`judge`] gives
+/// [`Facts`] and [`Chip::why`] those of the last sector, and a [`Record`] that was kept under 1 must not be handed
+/// over.
+pub const VERSION: u32 = 4;

@@ -5,7 +5,8 @@
 pub const TACK: u16 = 0x07;
 /// w: [`DECEN`] or 0.
 pub const CTRL0: u16 = 0x0A;
-/// rw: MBC, the blocks of a transfer less one, 0 to 31.
+/// rw: MBC, the blocks of a transfer less one, 0 to 31. A start sets it to those that it has, which may be fewer than
+/// were asked for: see [`ADTT`].
 pub const MBTC0: u16 = 0x12;
 /// w: one of [`SCT`], [`ADTT`] and [`SIGT`].
 pub const ASTRG: u16 = 0x17;
@@ -21,7 +22,7 @@ pub const MISS2: u16 = 0x30;
 pub const ATERR: u16 = 0x31;
 /// rw.
 pub const ATINT: u16 = 0x32;
-/// rw: the byte count's low byte.
+/// rw: the byte count's low byte. With [`STWCEN`] a start sets it and [`ATBHI`] to all its bytes, 2 to 65,534.
 pub const ATBLO: u16 = 0x34;
 /// rw: its high byte.
 pub const ATBHI: u16 = 0x35;
@@ -62,6 +63,12 @@ pub const DECEN: u16 = 0x80;
 /// [`ASTRG`]: status completion.
 pub const SCT: u16 = 0x01;
 /// [`ASTRG`]: start a transfer.
+///
+/// It has [`MBTC0`] plus one blocks where [`TTC`] is 0, else the least of [`ATLIM`], [`TCC`] and [`TTC`]; but at most
+/// so many that their bytes, blocks times the window's words times 2, do not pass 65,534: 31 of 1,024 words, 27 of
+/// 1,176, and 32 of up to 1,023, which is no bound. So it is with and without [`STWCEN`], and where it starts by itself.
+/// Fewer good blocks are [`TooFew`](crate::Refusal::TooFew), and leave [`MBTC0`] as it was; else that becomes the blocks
+/// less one.
 pub const ADTT: u16 = 0x04;
 /// [`ASTRG`]: signature.
 pub const SIGT: u16 = 0x10;
@@ -113,7 +120,7 @@ pub const ATTEN: u16 = 0x80;
 pub const ACMEN: u16 = 0x40;
 /// [`ACCTL`]: decoding needs it.
 pub const TCINCEN: u16 = 0x20;
-/// [`ACCTL`], its low five bits: the most blocks of a transfer; 0 is 32.
+/// [`ACCTL`], its low five bits: the most blocks of a transfer where [`TTC`] is not 0; 0 is 32.
 pub const ATLIM: u16 = 0x1F;
 
 /// The command that begins a packet, with [`APKTEN`].

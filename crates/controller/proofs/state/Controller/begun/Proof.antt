@@ -1,20 +1,15 @@
--- x
+-- `controller::Controller::begun` meets its contract. Assumes nothing.
 use native.Mathlib.Omega.{arith}
 use borrow.Author.Needs.{needs}
 use Rattle.controller.proofs.state.Controller.begun.Statement.{statement}
 use Rattle.controller.proofs.state.Controller.begun.Tie as tie
-use Rattle.controller.proofs.state.Controller.begun.Reads as reads
-use Rattle.controller.proofs.state.Controller.begun.Lts as lts
 
--- src/transfer.rt:69:22
 cast-blocks : tie.Need-cast-blocks
 cast-blocks c = omega (arith, c .struct-known .given)
 
--- src/transfer.rt:69:22
 add-blocks : tie.Need-add-blocks
 add-blocks c = omega (arith, c .struct-known .given)
 
--- src/transfer.rt:66:5
 returns : tie.Need-returns
 returns c = search needs
 

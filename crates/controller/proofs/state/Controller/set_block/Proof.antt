@@ -1,48 +1,36 @@
--- x
-use mathlib.Core.Path.{_∙_, sym, ap}
+-- `controller::Controller::set_block` meets its contract. Assumes nothing.
+use mathlib.Core.Path.{_∙_, sym}
 use Rattle.laws.proofs.Choice.{if-false, if-true}
 use borrow.Author.Tests.{le-leb, lt-leb}
 use Rattle.controller.specs.Named.{set-block}
 use borrow.Author.Needs.{needs}
 use Rattle.controller.proofs.state.Controller.set_block.Statement.{statement}
 use Rattle.controller.proofs.state.Controller.set_block.Tie as tie
-use Rattle.controller.proofs.state.Controller.set_block.Reads as reads
-use Rattle.controller.proofs.state.Controller.set_block.Lts as lts
-use Rattle.controller.proofs.step.refuse.Reads as refuse-reads
-use Rattle.controller.proofs.step.replied.Reads as replied-reads
 
--- src/named.rt:26:13
 refuse-requires : tie.Need-refuse-requires
 refuse-requires c κs = search needs
 
--- src/named.rt:26:13
 returns : tie.Need-returns
 unfolding set-block
 returns c = c .refuse .ensures ∙ sym (if-true _ _ _ (le-leb _ _ (c .before .if1 .taken)))
 
--- src/named.rt:29:13
 refuse-requires-2 : tie.Need-refuse-requires-2
 refuse-requires-2 c κs = search needs
 
--- src/named.rt:29:13
 returns-2 : tie.Need-returns-2
 unfolding set-block
 returns-2 c = c .refuse2 .ensures ∙ sym (if-false _ _ _ (lt-leb _ _ (c .before .before .if1 .left)) ∙ if-true _ _ _ (c .before .if2 .taken))
 
--- src/named.rt:32:13
 refuse-requires-3 : tie.Need-refuse-requires-3
 refuse-requires-3 c κs = search needs
 
--- src/named.rt:32:13
 returns-3 : tie.Need-returns-3
 unfolding set-block
 returns-3 c = c .refuse3 .ensures ∙ sym (if-false _ _ _ (lt-leb _ _ (c .before .before .before .before .before .if1 .left)) ∙ if-false _ _ _ (c .before .before .before .before .if2 .left) ∙ if-true _ _ _ (c .before .if3 .taken))
 
--- src/named.rt:34:9
 replied-requires : tie.Need-replied-requires
 replied-requires c κs = search needs
 
--- src/named.rt:22:5
 returns-4 : tie.Need-returns-4
 unfolding set-block
 returns-4 c = c .replied .ensures ∙ sym (if-false _ _ _ (lt-leb _ _ (c .before .before .before .before .before .if1 .left)) ∙ if-false _ _ _ (c .before .before .before .before .if2 .left) ∙ if-false _ _ _ (c .before .if3 .left))

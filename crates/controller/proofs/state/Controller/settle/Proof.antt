@@ -1,4 +1,4 @@
--- x
+-- `controller::Controller::settle` meets its contract. Assumes nothing.
 use mathlib.Core.Path.{_∙_, sym, ap}
 use Rattle.laws.proofs.Choice.{if-false, if-true}
 use mathlib.Core.Bool.{Bool, _&&_, not}
@@ -8,25 +8,17 @@ use Rattle.controller.specs.declared.step.Step.{Step}
 use borrow.Author.Needs.{needs}
 use Rattle.controller.proofs.state.Controller.settle.Statement.{statement}
 use Rattle.controller.proofs.state.Controller.settle.Tie as tie
-use Rattle.controller.proofs.state.Controller.settle.Reads as reads
-use Rattle.controller.proofs.state.Controller.settle.Lts as lts
-use Rattle.controller.proofs.state.Controller.engaged.Reads as engaged-reads
-use Rattle.controller.proofs.state.Controller.start.Reads as start-reads
 
--- src/transfer.rt:99:58
 engaged-requires : tie.Need-engaged-requires
 engaged-requires c κs = search needs
 
--- src/transfer.rt:100:17
 start-requires : tie.Need-start-requires
 start-requires c κs = search needs
 
--- src/transfer.rt:102:13
 returns : tie.Need-returns
 unfolding settled
 returns c = ap (λ (s : Step). s .controller) (c .before .start .ensures) ∙ sym (if-true _ _ _ (ap (λ (b : Bool). c .before .before .before .before .before .before .args .self .acctl .atten && not (eqb (c .before .before .before .before .before .before .args .self .counts .ttc) 0) && not b) (sym (c .before .before .before .engaged .ensures)) ∙ c .before .before .if1 .taken))
 
--- src/transfer.rt:96:5
 returns-2 : tie.Need-returns-2
 unfolding settled
 returns-2 c = sym (if-false _ _ _ (ap (λ (b : Bool). c .before .before .before .before .args .self .acctl .atten && not (eqb (c .before .before .before .before .args .self .counts .ttc) 0) && not b) (sym (c .before .engaged .ensures)) ∙ c .if1 .left))

@@ -1,71 +1,90 @@
--- x
-use mathlib.Core.Path.{_∙_, sym, ap}
+-- `controller::Controller::start` meets its contract. Assumes nothing.
+use mathlib.Core.Path.{_≡_, _∙_, sym, ap, subst}
+use mathlib.Core.Bool.{false, _||_, not}
+use Prim.Native.Nat.{ℕ, _+_, _-_, _*_, _<_}
+use native.Mathlib.Omega.{arith}
+use lib.Dec.{eqb, ltb}
+use borrow.Author.Tests.{eqb-false, not-false}
+use borrow.Author.Needs.{needs}
 use Rattle.laws.proofs.Choice.{if-false, if-true}
-use mathlib.Core.Bool.{not}
-use Prim.Native.Nat.{ℕ}
+use Rattle.laws.proofs.Tests.{or-false}
 use Rattle.controller.specs.declared.state.Controller.{Controller}
-use Rattle.controller.specs.Transfer.{start, byte-count, begun}
+use Rattle.controller.specs.Transfer.{start-switches, start-blocks, blocks-lacking, start, byte-count, begun}
 use Rattle.controller.specs.Fields.{_▹_, mbc≔}
 use Rattle.controller.specs.Step.{done}
-use borrow.Author.Needs.{needs}
+use Rattle.controller.proofs.Starts.{windowed, fits}
 use Rattle.controller.proofs.state.Controller.start.Statement.{statement}
 use Rattle.controller.proofs.state.Controller.start.Tie as tie
-use Rattle.controller.proofs.state.Controller.start.Reads as reads
-use Rattle.controller.proofs.state.Controller.start.Lts as lts
-use Rattle.controller.proofs.state.Controller.begun.Reads as begun-reads
-use Rattle.controller.proofs.state.Controller.blocks_lacking.Reads as blocks-lacking-reads
-use Rattle.controller.proofs.state.Controller.byte_count.Reads as byte-count-reads
-use Rattle.controller.proofs.state.Controller.start_mbc.Reads as start-mbc-reads
-use Rattle.controller.proofs.state.Controller.start_switches.Reads as start-switches-reads
-use Rattle.controller.proofs.step.done.Reads as done-reads
-use Rattle.controller.proofs.step.refuse.Reads as refuse-reads
 
--- src/transfer.rt:84:13
+-- what was tested is blocks-lacking
+lacking : (c : Controller) (b : ℕ) → b ≡ start-blocks c → blocks-lacking c ≡ (eqb b 0 || ltb (c .counts .tcc) b)
+lacking c b e = ap (λ (n : ℕ). eqb n 0 || ltb (c .counts .tcc) n) (sym e)
+
+-- the bytes of so many blocks, of which one is taken away and given back
+counted : (c : Controller) (b : ℕ) → b ≡ start-blocks c → eqb b 0 ≡ false → (b - 1 + 1) * c .window .words * 2 < 65536
+counted c b e some =
+    let same : b ≡ b - 1 + 1 = omega (arith, eqb-false b 0 some) in
+    subst (λ (n : ℕ). n * c .window .words * 2 < 65536) (sym e ∙ same) (omega (arith, fits c))
+
 start-switches-requires : tie.Need-start-switches-requires
 start-switches-requires c κs = search needs
 
--- src/transfer.rt:85:13
 refuse-requires : tie.Need-refuse-requires
 refuse-requires c κs = search needs
 
--- src/transfer.rt:85:13
 returns : tie.Need-returns
 unfolding start
 returns c = c .refuse .ensures ∙ sym (if-true _ _ _ (ap not (sym (c .before .before .start-switches .ensures)) ∙ c .before .if1 .taken))
 
--- src/transfer.rt:87:12
-blocks-lacking-requires : tie.Need-blocks-lacking-requires
-blocks-lacking-requires c κs = search needs
+start-blocks-requires : tie.Need-start-blocks-requires
+start-blocks-requires c κs =
+    windowed (c .before .before .args .self) (sym (c .before .start-switches .ensures) ∙ not-false (c .before .start-switches .result) (c .if1 .left))
 
--- src/transfer.rt:88:13
 refuse-requires-2 : tie.Need-refuse-requires-2
 refuse-requires-2 c κs = search needs
 
--- src/transfer.rt:88:13
 returns-2 : tie.Need-returns-2
 unfolding start
-returns-2 c = c .refuse2 .ensures ∙ sym (if-false _ _ _ (ap not (sym (c .before .before .before .before .start-switches .ensures)) ∙ c .before .before .before .if1 .left) ∙ if-true _ _ _ (sym (c .before .before .blocks-lacking .ensures) ∙ c .before .if2 .taken))
+returns-2 c =
+    let self = c .before .before .before .before .before .before .args .self in
+    let b = c .before .before .before .start-blocks in
+    c .refuse2 .ensures
+    ∙ sym (if-false _ _ _ (ap not (sym (c .before .before .before .before .before .start-switches .ensures)) ∙ c .before .before .before .before .if1 .left)
+    ∙ if-true _ _ _ (lacking self (b .result) (b .ensures .0) ∙ c .before .if2 .taken))
 
--- src/transfer.rt:90:13
-start-mbc-requires : tie.Need-start-mbc-requires
-start-mbc-requires c κs = search needs
+sub-mbc : tie.Need-sub-mbc
+sub-mbc c =
+    let b = c .before .before .start-blocks in
+    let some = or-false (eqb (b .result) 0) (ltb (c .before .before .before .before .before .args .self .counts .tcc) (b .result)) (c .if2 .left) .0 in
+    omega (arith, eqb-false (b .result) 0 some)
 
--- src/transfer.rt:92:14
+cast-mbc : tie.Need-cast-mbc
+cast-mbc c = search needs
+
 byte-count-requires : tie.Need-byte-count-requires
-byte-count-requires c κs = search needs
+byte-count-requires c κs =
+    let self = c .before .before .before .before .before .args .self in
+    let b = c .before .before .start-blocks in
+    counted self (b .result) (b .ensures .0) (or-false (eqb (b .result) 0) (ltb (self .counts .tcc) (b .result)) (c .if2 .left) .0)
 
--- src/transfer.rt:92:14
 begun-requires : tie.Need-begun-requires
 begun-requires c κs = search needs
 
--- src/transfer.rt:92:9
 done-requires : tie.Need-done-requires
 done-requires c κs = search needs
 
--- src/transfer.rt:81:5
 returns-3 : tie.Need-returns-3
 unfolding start
-returns-3 c = c .done .ensures ∙ ap done (c .before .begun .ensures ∙ ap (λ (x : Controller). begun x) (c .before .before .byte-count .ensures ∙ ap (λ (m : ℕ). byte-count (c .before .before .before .before .before .before .before .before .args .self ▹ mbc≔ m)) (c .before .before .before .start-mbc .ensures))) ∙ sym (if-false _ _ _ (ap not (sym (c .before .before .before .before .before .before .before .start-switches .ensures)) ∙ c .before .before .before .before .before .before .if1 .left) ∙ if-false _ _ _ (sym (c .before .before .before .before .before .blocks-lacking .ensures) ∙ c .before .before .before .before .if2 .left))
+returns-3 c =
+    let self = c .before .before .before .before .before .before .before .before .args .self in
+    let b = c .before .before .before .before .before .start-blocks in
+    c .done .ensures
+    ∙ ap done
+    (c .before .begun .ensures
+    ∙ ap (λ (x : Controller). begun x)
+    (c .before .before .byte-count .ensures ∙ ap (λ (n : ℕ). byte-count (self ▹ mbc≔ (n - 1))) (b .ensures .0)))
+    ∙ sym (if-false _ _ _ (ap not (sym (c .before .before .before .before .before .before .before .start-switches .ensures)) ∙ c .before .before .before .before .before .before .if1 .left)
+    ∙ if-false _ _ _ (lacking self (b .result) (b .ensures .0) ∙ c .before .before .before .if2 .left))
 
 pub start-spec : {M : Type 1} → statement M
 start-spec =
@@ -74,10 +93,11 @@ start-spec =
     start-switches-requires
     refuse-requires
     returns
-    blocks-lacking-requires
+    start-blocks-requires
     refuse-requires-2
     returns-2
-    start-mbc-requires
+    sub-mbc
+    cast-mbc
     byte-count-requires
     begun-requires
     done-requires

@@ -1,196 +1,140 @@
--- x
+-- `controller::Controller::write` meets its contract. Assumes nothing.
 use mathlib.Core.Path.{_∙_}
 use borrow.Author.Tests.{ne-eqb}
 use Rattle.controller.specs.Write.{write}
 use borrow.Author.Needs.{needs}
 use Rattle.controller.proofs.state.Controller.write.Statement.{statement}
 use Rattle.controller.proofs.state.Controller.write.Tie as tie
-use Rattle.controller.proofs.state.Controller.write.Reads as reads
-use Rattle.controller.proofs.state.Controller.write.Lts as lts
-use Rattle.controller.proofs.state.Controller.write_acctl.Reads as write-acctl-reads
-use Rattle.controller.proofs.state.Controller.write_apksta.Reads as write-apksta-reads
-use Rattle.controller.proofs.state.Controller.write_ascsta.Reads as write-ascsta-reads
-use Rattle.controller.proofs.state.Controller.write_asctrl.Reads as write-asctrl-reads
-use Rattle.controller.proofs.state.Controller.write_astrg.Reads as write-astrg-reads
-use Rattle.controller.proofs.state.Controller.write_atsta.Reads as write-atsta-reads
-use Rattle.controller.proofs.state.Controller.write_bicctl.Reads as write-bicctl-reads
-use Rattle.controller.proofs.state.Controller.write_buflim.Reads as write-buflim-reads
-use Rattle.controller.proofs.state.Controller.write_ctrl0.Reads as write-ctrl0-reads
-use Rattle.controller.proofs.state.Controller.write_mbtc0.Reads as write-mbtc0-reads
-use Rattle.controller.proofs.state.Controller.write_skipc.Reads as write-skipc-reads
-use Rattle.controller.proofs.state.Controller.write_tack.Reads as write-tack-reads
-use Rattle.controller.proofs.state.Controller.write_task.Reads as write-task-reads
-use Rattle.controller.proofs.state.Controller.write_tcc.Reads as write-tcc-reads
-use Rattle.controller.proofs.state.Controller.write_ttc.Reads as write-ttc-reads
-use Rattle.controller.proofs.step.refuse.Reads as refuse-reads
 
--- src/write.rt:296:21
 write-tack-requires : tie.Need-write-tack-requires
 write-tack-requires c κs = search needs
 
--- src/write.rt:297:21
 write-ctrl0-requires : tie.Need-write-ctrl0-requires
 write-ctrl0-requires c κs = search needs
 
--- src/write.rt:298:21
 write-mbtc0-requires : tie.Need-write-mbtc0-requires
 write-mbtc0-requires c κs = search needs
 
--- src/write.rt:299:21
 write-astrg-requires : tie.Need-write-astrg-requires
 write-astrg-requires c κs = search needs
 
--- src/write.rt:300:21
 write-asctrl-requires : tie.Need-write-asctrl-requires
 write-asctrl-requires c κs = search needs
 
--- src/write.rt:301:21
 write-task-requires : tie.Need-write-task-requires
 write-task-requires c κs = search needs
 
--- src/write.rt:302:21
 write-task-requires-2 : tie.Need-write-task-requires-2
 write-task-requires-2 c κs = search needs
 
--- src/write.rt:303:21
 write-task-requires-3 : tie.Need-write-task-requires-3
 write-task-requires-3 c κs = search needs
 
--- src/write.rt:304:21
 write-task-requires-4 : tie.Need-write-task-requires-4
 write-task-requires-4 c κs = search needs
 
--- src/write.rt:305:21
 write-atsta-requires : tie.Need-write-atsta-requires
 write-atsta-requires c κs = search needs
 
--- src/write.rt:306:21
 write-apksta-requires : tie.Need-write-apksta-requires
 write-apksta-requires c κs = search needs
 
--- src/write.rt:307:21
 write-ascsta-requires : tie.Need-write-ascsta-requires
 write-ascsta-requires c κs = search needs
 
--- src/write.rt:308:21
 write-bicctl-requires : tie.Need-write-bicctl-requires
 write-bicctl-requires c κs = search needs
 
--- src/write.rt:309:21
 write-buflim-requires : tie.Need-write-buflim-requires
 write-buflim-requires c κs = search needs
 
--- src/write.rt:310:21
 write-acctl-requires : tie.Need-write-acctl-requires
 write-acctl-requires c κs = search needs
 
--- src/write.rt:311:21
 write-tcc-requires : tie.Need-write-tcc-requires
 write-tcc-requires c κs = search needs
 
--- src/write.rt:312:21
 write-skipc-requires : tie.Need-write-skipc-requires
 write-skipc-requires c κs = search needs
 
--- src/write.rt:313:21
 write-ttc-requires : tie.Need-write-ttc-requires
 write-ttc-requires c κs = search needs
 
--- src/write.rt:314:18
 refuse-requires : tie.Need-refuse-requires
 refuse-requires c κs = search needs
 
--- src/write.rt:292:5
 returns : tie.Need-returns
 unfolding write
 returns c = c .write-tack .ensures ∙ simp (c .before .match .keys1)
 
--- src/write.rt:292:5
 returns-2 : tie.Need-returns-2
 unfolding write
 returns-2 c = c .write-ctrl0 .ensures ∙ simp (c .before .match .keys2)
 
--- src/write.rt:292:5
 returns-3 : tie.Need-returns-3
 unfolding write
 returns-3 c = c .write-mbtc0 .ensures ∙ simp (c .before .match .keys3)
 
--- src/write.rt:292:5
 returns-4 : tie.Need-returns-4
 unfolding write
 returns-4 c = c .write-astrg .ensures ∙ simp (c .before .match .keys4)
 
--- src/write.rt:292:5
 returns-5 : tie.Need-returns-5
 unfolding write
 returns-5 c = c .write-asctrl .ensures ∙ simp (c .before .match .keys5)
 
--- src/write.rt:292:5
 returns-6 : tie.Need-returns-6
 unfolding write
 returns-6 c = c .write-task .ensures ∙ simp (c .before .match .keys6)
 
--- src/write.rt:292:5
 returns-7 : tie.Need-returns-7
 unfolding write
 returns-7 c = c .write-task2 .ensures ∙ simp (c .before .match .keys7)
 
--- src/write.rt:292:5
 returns-8 : tie.Need-returns-8
 unfolding write
 returns-8 c = c .write-task3 .ensures ∙ simp (c .before .match .keys8)
 
--- src/write.rt:292:5
 returns-9 : tie.Need-returns-9
 unfolding write
 returns-9 c = c .write-task4 .ensures ∙ simp (c .before .match .keys9)
 
--- src/write.rt:292:5
 returns-10 : tie.Need-returns-10
 unfolding write
 returns-10 c = c .write-atsta .ensures ∙ simp (c .before .match .keys10)
 
--- src/write.rt:292:5
 returns-11 : tie.Need-returns-11
 unfolding write
 returns-11 c = c .write-apksta .ensures ∙ simp (c .before .match .keys11)
 
--- src/write.rt:292:5
 returns-12 : tie.Need-returns-12
 unfolding write
 returns-12 c = c .write-ascsta .ensures ∙ simp (c .before .match .keys12)
 
--- src/write.rt:292:5
 returns-13 : tie.Need-returns-13
 unfolding write
 returns-13 c = c .write-bicctl .ensures ∙ simp (c .before .match .keys13)
 
--- src/write.rt:292:5
 returns-14 : tie.Need-returns-14
 unfolding write
 returns-14 c = c .write-buflim .ensures ∙ simp (c .before .match .keys14)
 
--- src/write.rt:292:5
 returns-15 : tie.Need-returns-15
 unfolding write
 returns-15 c = c .write-acctl .ensures ∙ simp (c .before .match .keys15)
 
--- src/write.rt:292:5
 returns-16 : tie.Need-returns-16
 unfolding write
 returns-16 c = c .write-tcc .ensures ∙ simp (c .before .match .keys16)
 
--- src/write.rt:292:5
 returns-17 : tie.Need-returns-17
 unfolding write
 returns-17 c = c .write-skipc .ensures ∙ simp (c .before .match .keys17)
 
--- src/write.rt:292:5
 returns-18 : tie.Need-returns-18
 unfolding write
 returns-18 c = c .write-ttc .ensures ∙ simp (c .before .match .keys18)
 
--- src/write.rt:292:5
 returns-19 : tie.Need-returns-19
 unfolding write
 returns-19 c = c .refuse .ensures ∙ simp (ne-eqb _ _ (c .before .match .rest .1), ne-eqb _ _ (c .before .match .rest .0 .1), ne-eqb _ _ (c .before .match .rest .0 .0 .1), ne-eqb _ _ (c .before .match .rest .0 .0 .0 .1), ne-eqb _ _ (c .before .match .rest .0 .0 .0 .0 .1), ne-eqb _ _ (c .before .match .rest .0 .0 .0 .0 .0 .1), ne-eqb _ _ (c .before .match .rest .0 .0 .0 .0 .0 .0 .1), ne-eqb _ _ (c .before .match .rest .0 .0 .0 .0 .0 .0 .0 .1), ne-eqb _ _ (c .before .match .rest .0 .0 .0 .0 .0 .0 .0 .0 .1), ne-eqb _ _ (c .before .match .rest .0 .0 .0 .0 .0 .0 .0 .0 .0 .1), ne-eqb _ _ (c .before .match .rest .0 .0 .0 .0 .0 .0 .0 .0 .0 .0 .1), ne-eqb _ _ (c .before .match .rest .0 .0 .0 .0 .0 .0 .0 .0 .0 .0 .0 .1), ne-eqb _ _ (c .before .match .rest .0 .0 .0 .0 .0 .0 .0 .0 .0 .0 .0 .0 .1), ne-eqb _ _ (c .before .match .rest .0 .0 .0 .0 .0 .0 .0 .0 .0 .0 .0 .0 .0 .1), ne-eqb _ _ (c .before .match .rest .0 .0 .0 .0 .0 .0 .0 .0 .0 .0 .0 .0 .0 .0 .1), ne-eqb _ _ (c .before .match .rest .0 .0 .0 .0 .0 .0 .0 .0 .0 .0 .0 .0 .0 .0 .0 .1), ne-eqb _ _ (c .before .match .rest .0 .0 .0 .0 .0 .0 .0 .0 .0 .0 .0 .0 .0 .0 .0 .0 .1), ne-eqb _ _ (c .before .match .rest .0 .0 .0 .0 .0 .0 .0 .0 .0 .0 .0 .0 .0 .0 .0 .0 .0 .1))

@@ -1,4 +1,4 @@
--- x
+-- `controller::Controller::write_astrg` meets its contract. Assumes nothing.
 use Rattle.controller.specs.Step.{done}
 use Rattle.laws.proofs.Choice.{if-false, if-true}
 use mathlib.Core.Path.{_∙_, sym, ap}
@@ -7,68 +7,47 @@ use Rattle.controller.specs.Write.{write-astrg}
 use borrow.Author.Needs.{needs}
 use Rattle.controller.proofs.state.Controller.write_astrg.Statement.{statement}
 use Rattle.controller.proofs.state.Controller.write_astrg.Tie as tie
-use Rattle.controller.proofs.state.Controller.write_astrg.Reads as reads
-use Rattle.controller.proofs.state.Controller.write_astrg.Lts as lts
-use Rattle.controller.proofs.state.Controller.complete.Reads as complete-reads
-use Rattle.controller.proofs.state.Controller.engaged.Reads as engaged-reads
-use Rattle.controller.proofs.state.Controller.signed.Reads as signed-reads
-use Rattle.controller.proofs.state.Controller.start.Reads as start-reads
-use Rattle.controller.proofs.step.done.Reads as done-reads
-use Rattle.controller.proofs.step.refuse.Reads as refuse-reads
 
--- src/write.rt:71:13
 refuse-requires : tie.Need-refuse-requires
 refuse-requires c κs = search needs
 
--- src/write.rt:71:13
 returns : tie.Need-returns
 unfolding write-astrg
 returns c = c .refuse .ensures ∙ sym (if-true _ _ _ (c .before .if1 .taken))
 
--- src/write.rt:73:12
 engaged-requires : tie.Need-engaged-requires
 engaged-requires c κs = search needs
 
--- src/write.rt:74:13
 refuse-requires-2 : tie.Need-refuse-requires-2
 refuse-requires-2 c κs = search needs
 
--- src/write.rt:74:13
 returns-2 : tie.Need-returns-2
 unfolding write-astrg
 returns-2 c = c .refuse2 .ensures ∙ sym (if-false _ _ _ (c .before .before .before .if1 .left) ∙ if-true _ _ _ (sym (c .before .before .engaged .ensures) ∙ c .before .if2 .taken))
 
--- src/write.rt:77:25
 complete-requires : tie.Need-complete-requires
 complete-requires c κs = search needs
 
--- src/write.rt:77:13
 done-requires : tie.Need-done-requires
 done-requires c κs = search needs
 
--- src/write.rt:77:13
 returns-3 : tie.Need-returns-3
 unfolding write-astrg
 returns-3 c = c .done .ensures ∙ ap done (c .before .complete .ensures) ∙ sym (if-false _ _ _ (c .before .before .before .before .before .if1 .left) ∙ if-false _ _ _ (sym (c .before .before .before .before .engaged .ensures) ∙ c .before .before .before .if2 .left) ∙ if-true _ _ _ (eq-eqb _ _ (c .before .before .if3 .taken)))
 
--- src/write.rt:80:13
 start-requires : tie.Need-start-requires
 start-requires c κs = search needs
 
--- src/write.rt:80:13
 returns-4 : tie.Need-returns-4
 unfolding write-astrg
 returns-4 c = c .start .ensures ∙ sym (if-false _ _ _ (c .before .before .before .before .before .if1 .left) ∙ if-false _ _ _ (sym (c .before .before .before .before .engaged .ensures) ∙ c .before .before .before .if2 .left) ∙ if-false _ _ _ (ne-eqb _ _ (c .before .before .if3 .left)) ∙ if-true _ _ _ (eq-eqb _ _ (c .before .if4 .taken)))
 
--- src/write.rt:82:14
 signed-requires : tie.Need-signed-requires
 signed-requires c κs = search needs
 
--- src/write.rt:82:9
 done-requires-2 : tie.Need-done-requires-2
 done-requires-2 c κs = search needs
 
--- src/write.rt:67:5
 returns-5 : tie.Need-returns-5
 unfolding write-astrg
 returns-5 c = c .done2 .ensures ∙ ap done (c .before .signed .ensures) ∙ sym (if-false _ _ _ (c .before .before .before .before .before .before .if1 .left) ∙ if-false _ _ _ (sym (c .before .before .before .before .before .engaged .ensures) ∙ c .before .before .before .before .if2 .left) ∙ if-false _ _ _ (ne-eqb _ _ (c .before .before .before .if3 .left)) ∙ if-false _ _ _ (ne-eqb _ _ (c .before .before .if4 .left)))

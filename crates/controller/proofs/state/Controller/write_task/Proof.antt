@@ -1,4 +1,4 @@
--- x
+-- `controller::Controller::write_task` meets its contract. Assumes nothing.
 use mathlib.Core.Path.{_∙_, sym, ap}
 use Rattle.laws.proofs.Choice.{if-false, if-true}
 use borrow.Author.Tests.{lt-ltb, le-ltb}
@@ -9,34 +9,23 @@ use Rattle.controller.specs.declared.state.Task.{Task}
 use borrow.Author.Needs.{needs}
 use Rattle.controller.proofs.state.Controller.write_task.Statement.{statement}
 use Rattle.controller.proofs.state.Controller.write_task.Tie as tie
-use Rattle.controller.proofs.state.Controller.write_task.Reads as reads
-use Rattle.controller.proofs.state.Controller.write_task.Lts as lts
-use Rattle.controller.proofs.state.Task.with.Reads as with-reads
-use Rattle.controller.proofs.step.done.Reads as done-reads
-use Rattle.controller.proofs.step.refuse.Reads as refuse-reads
 
--- src/write.rt:115:13
 refuse-requires : tie.Need-refuse-requires
 refuse-requires c κs = search needs
 
--- src/write.rt:115:13
 returns : tie.Need-returns
 unfolding write-task
 returns c = c .refuse .ensures ∙ sym (if-true _ _ _ (lt-ltb _ _ (c .before .if1 .taken)))
 
--- src/write.rt:118:35
 cast-with : tie.Need-cast-with
 cast-with c = search needs
 
--- src/write.rt:118:13
 with-requires : tie.Need-with-requires
 with-requires c κs = search needs
 
--- src/write.rt:120:9
 done-requires : tie.Need-done-requires
 done-requires c κs = search needs
 
--- src/write.rt:111:5
 returns-2 : tie.Need-returns-2
 unfolding write-task
 returns-2 c = c .done .ensures ∙ ap (λ (t : Task). done (c .before .before .before .before .args .self ▹ task≔ t)) (c .before .with .ensures) ∙ sym (if-false _ _ _ (le-ltb _ _ (c .before .before .before .if1 .left)))

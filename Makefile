@@ -13,7 +13,7 @@ HEADER = include/cdrom.h
 VERSION = $(shell sed -n 's/^\#define CDROM_VERSION \([0-9][0-9]*\)$$/\1/p' $(HEADER))
 INSTALLED = $(DESTDIR)$(PREFIX)
 
-PROGRAMS = seal lines drive long lengths speak against image
+PROGRAMS = seal lines drive long lengths speak against image verify
 EXAMPLES = $(PROGRAMS:%=target/examples/%)
 
 .PHONY: help lib install uninstall examples clean

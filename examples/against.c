@@ -180,6 +180,13 @@ static int registers_differ(void)
 /* The sectors that were taken come first, by their why. */
 enum {
     LAST = 16,
+    FORM1_GOOD,
+    FORM2_GOOD,
+    FORM2_UNCHECKED,
+    FORM1_WITHOUT_CODE,
+    OTHER_MODES,
+    SUBHEADERS_DIFFER,
+    FORMS_DIFFER,
     RESTARTS,
     SKIPS,
     STARTS,
@@ -213,6 +220,13 @@ static const char *const names[] = {"good sectors",
                                     "sectors with why=14: sync, mode, EDC",
                                     "sectors with why=15: all four",
                                     "good sectors at 99:59:74",
+                                    "good sectors of form 1",
+                                    "good sectors of form 2 with their code",
+                                    "good sectors of form 2 without a code",
+                                    "sectors of form 1 with zeros for a code",
+                                    "sectors of other modes than 1 and 2",
+                                    "sectors of mode 2 whose subheaders differ",
+                                    "sectors of mode 2 whose two form bits differ",
                                     "restarts after a bad sector",
                                     "skips of blocks",
                                     "starts",
@@ -282,11 +296,27 @@ static void count_write(struct call call, struct state before, struct state afte
         count_start(before, after);
 }
 
+/* By the kind that is read of the block. */
+static void count_kind(const uint8_t *block, uint32_t why)
+{
+    static const uint8_t zeros[4];
+    int kind = CDROM_KIND_OF(block), is_mode_2 = block[15] == 2;
+    int has_no_code = memcmp(block + CDROM_USER_OFFSET_OF(kind) + CDROM_USER_BYTES_OF(kind), zeros, sizeof zeros) == 0;
+    happened[FORM1_GOOD] += kind == CDROM_FORM1 && why == 0;
+    happened[FORM2_GOOD] += kind == CDROM_FORM2 && why == 0 && !has_no_code;
+    happened[FORM2_UNCHECKED] += kind == CDROM_FORM2 && why == 0 && has_no_code;
+    happened[FORM1_WITHOUT_CODE] += kind == CDROM_FORM1 && has_no_code;
+    happened[OTHER_MODES] += block[15] != 1 && !is_mode_2;
+    happened[SUBHEADERS_DIFFER] += is_mode_2 && (why & CDROM_WHY_MODE) != 0;
+    happened[FORMS_DIFFER] += is_mode_2 && ((block[18] ^ block[22]) & CDROM_SUBMODE_FORM2) != 0;
+}
+
 static void count_sector(struct call call)
 {
     uint32_t why = cdrom_chip_why(&library.chip);
     happened[why & 15]++;
     happened[LAST] += why == 0 && call.one == 99 && call.two == 59 && call.three == 74;
+    count_kind(library.ring + (size_t)standing(&library.chip, CDROM_LDDBL) * CDROM_BLOCK_BYTES, why);
 }
 
 static void count(struct call call, struct outcome outcome, struct state before, struct state after)

@@ -3,10 +3,10 @@
 
 #include <stdio.h>
 
-/* Where a sector's address begins, its mode and its code. */
+/* Where a sector's address begins, and its mode. */
 #define ADDRESS_OFFSET 12
 #define MODE_OFFSET 15
-#define CODE_OFFSET (CDROM_USER_OFFSET + CDROM_USER_BYTES)
+#define SUBHEADERS_END CDROM_XA_USER_OFFSET
 /* So many good blocks are enough for a start that is bound by its bytes: 27 of 1,176 words. */
 #define MANY_BLOCKS 27
 #define FEW_WORDS 3000
@@ -96,49 +96,91 @@ static void damage(struct writer *w, size_t place, uint16_t count)
     w->sector[place + draw_below(w, count)] ^= (uint8_t)(1 + draw_below(w, 255));
 }
 
-static void fit_code(struct writer *w)
+/* Of the opened sector: where the code of its kind stands, just behind the user bytes. */
+static size_t code_offset(const struct writer *w)
 {
-    uint32_t code = cdrom_edc(w->sector, CODE_OFFSET);
-    for (int place = 0; place < 4; place++)
-        w->sector[CODE_OFFSET + place] = (uint8_t)(code >> 8 * place);
+    uint16_t kind = CDROM_KIND_OF(w->sector);
+    return (size_t)CDROM_USER_OFFSET_OF(kind) + CDROM_USER_BYTES_OF(kind);
 }
 
-/* The code is made to fit the damaged bytes before it, and damaged last: so each fact comes alone and with any other. The parity is left
- * as it was, since the chip does not judge it. Scrambling is its own inverse: an opened sector that is opened again is scrambled. */
+/* That of mode 1 covers all bytes before it, and those of mode 2 all but sync and header. */
+static void fit_code(struct writer *w)
+{
+    size_t first = CDROM_KIND_OF(w->sector) == CDROM_MODE1 ? 0 : CDROM_SUBHEADER_OFFSET, end = code_offset(w);
+    uint32_t code = cdrom_edc(w->sector + first, end - first);
+    for (int place = 0; place < 4; place++)
+        w->sector[end + place] = (uint8_t)(code >> 8 * place);
+}
+
+/* A mode byte that is neither 1 nor 2; in mode 2 as often subheaders that differ. Either may change the kind that is read. */
+static void spoil_mode(struct writer *w)
+{
+    if (CDROM_KIND_OF(w->sector) == CDROM_MODE1 || one_in(w, 2))
+        w->sector[MODE_OFFSET] = (uint8_t)(3 + draw_below(w, 254));
+    else
+        damage(w, CDROM_SUBHEADER_OFFSET, SUBHEADERS_END - CDROM_SUBHEADER_OFFSET);
+}
+
+/* The code is made to fit the damaged bytes that it covers, and damaged last: so each fact comes alone and with any other. The parity is
+ * left as it was, since the chip does not judge it. */
 static void spoil(struct writer *w, uint16_t why)
 {
-    cdrom_open(w->sector, sizeof w->sector);
     if (why & CDROM_WHY_SYNC)
         damage(w, 0, ADDRESS_OFFSET);
     if (why & CDROM_WHY_ADDRESS)
         damage(w, ADDRESS_OFFSET, MODE_OFFSET - ADDRESS_OFFSET);
     if (why & CDROM_WHY_MODE)
-        damage(w, MODE_OFFSET, 1);
+        spoil_mode(w);
     fit_code(w);
     if (why & CDROM_WHY_EDC)
-        damage(w, CODE_OFFSET, 4);
-    cdrom_open(w->sector, sizeof w->sector);
+        damage(w, code_offset(w), 4);
 }
 
-/* The sector that is due, or one of another place; sealed, as it lies on the disc. Some have a damaged byte, others fail in facts that
- * are drawn. */
+/* What is wrong with a sector: one damaged byte, as often of its first as of all; facts that are drawn; or four zeros in place of its code,
+ * which form 2 may have. */
+static void draw_faults(struct writer *w, struct call *call)
+{
+    switch (draw_below(w, 48)) {
+    case 0: call->damaged = (uint16_t)(1 + draw_below(w, CDROM_SECTOR_BYTES)); return;
+    case 1: call->damaged = (uint16_t)(1 + draw_below(w, SUBHEADERS_END)); return;
+    case 2:
+    case 3: call->why = (uint16_t)(1 + draw_below(w, 15)); return;
+    case 4: call->has_no_code = 1; return;
+    default: return;
+    }
+}
+
+/* The user bytes are drawn, and so is the subheader, but for the form bit: that is the kind's. */
+static void seal(struct writer *w, struct call call)
+{
+    uint8_t subheader[CDROM_SUBHEADER_BYTES];
+    size_t first = CDROM_USER_OFFSET_OF(call.sector_kind), end = first + CDROM_USER_BYTES_OF(call.sector_kind);
+    for (size_t place = 0; place < sizeof subheader; place++)
+        subheader[place] = (uint8_t)draw(w);
+    subheader[2] = (uint8_t)((subheader[2] & ~CDROM_SUBMODE_FORM2) | (call.sector_kind == CDROM_FORM2 ? CDROM_SUBMODE_FORM2 : 0));
+    for (size_t place = first; place < end; place++)
+        w->sector[place] = (uint8_t)draw(w);
+    cdrom_seal_xa(w->sector, sizeof w->sector, call.one, call.two, call.three, call.sector_kind, subheader);
+}
+
+/* The sector that is due, or one of another place; sealed, as it lies on the disc, and some with faults. Scrambling is its own inverse: an
+ * opened sector that is opened again is scrambled. */
 static struct call sector_call(struct writer *w)
 {
     struct call call = {.kind = SECTOR, .one = w->minute, .two = w->second, .three = w->frame};
     if (one_in(w, 20))
         call.three = draw_below(w, 75);
-    int is_bad = one_in(w, 12);
-    if (is_bad && one_in(w, 2))
-        call.damaged = (uint16_t)(1 + draw_below(w, CDROM_SECTOR_BYTES));
-    else if (is_bad)
-        call.why = (uint16_t)(1 + draw_below(w, 15));
-    for (size_t place = CDROM_USER_OFFSET; place < CODE_OFFSET; place++)
-        w->sector[place] = (uint8_t)draw(w);
-    cdrom_seal(w->sector, sizeof w->sector, call.one, call.two, call.three);
+    call.sector_kind = PICK(w, CDROM_MODE1, CDROM_FORM1, CDROM_FORM2);
+    draw_faults(w, &call);
+    seal(w, call);
+    cdrom_open(w->sector, sizeof w->sector);
     if (call.damaged > 0)
         damage(w, call.damaged - 1u, 1);
     if (call.why > 0)
         spoil(w, call.why);
+    for (size_t place = 0; place < 4 && call.has_no_code; place++)
+        w->sector[code_offset(w) + place] = 0;
+    cdrom_open(w->sector, sizeof w->sector);
     return call;
 }
 
@@ -191,7 +233,7 @@ static struct call serve(struct writer *w, cdrom_chip *chip)
     if (tcc >= MANY_BLOCKS && !one_in(w, 4))
         return ask_for_many(w);
     if (one_in(w, 4))
-        return (struct call){.kind = WINDOW, .one = PICK(w, 0, 12, 15, 16, 16, 2060), .two = PICK(w, 1, 2, 3, 50, 146, 1024)};
+        return (struct call){.kind = WINDOW, .one = PICK(w, 0, 12, 15, 16, 24, 2060), .two = PICK(w, 1, 2, 3, 50, 146, 1024, 1162)};
     if (!(standing(chip, CDROM_ASCTRL) & CDROM_ADCEN))
         return write_call(CDROM_ASCTRL, CDROM_ADCEN | PICK(w, 0, CDROM_STWCEN, CDROM_STWCEN));
     if (!(standing(chip, CDROM_STATUS) & CDROM_BSY))
@@ -313,9 +355,13 @@ void print_call(struct call call)
         printf(" from byte %u, %u words", call.one, call.two);
     if (call.kind == EXPECT || call.kind == SECTOR)
         printf(" %02u:%02u:%02u", call.one, call.two, call.three);
+    if (call.kind == SECTOR)
+        printf(", %s", call.sector_kind == CDROM_MODE1 ? "mode 1" : call.sector_kind == CDROM_FORM1 ? "form 1" : "form 2");
     if (call.damaged > 0)
         printf(", byte %u damaged", call.damaged - 1u);
     if (call.why > 0)
         printf(", spoilt: why=%u", call.why);
+    if (call.has_no_code)
+        printf(", no code");
     putchar('\n');
 }

@@ -12,8 +12,9 @@ enum kind { OPEN, WRITE, READ, WINDOW, EXPECT, SECTOR, LOOK, WORD, BURST, COMMAN
 struct call {
     enum kind kind;
     uint16_t one, two, three;
-    /* Of a sector: the byte that is damaged, counted from 1, or what it is made to fail in, CDROM_WHY_..; 0 is none. */
-    uint16_t damaged, why;
+    /* Of a sector: its kind, CDROM_MODE1, CDROM_FORM1 or CDROM_FORM2; the byte that is damaged, counted from 1; what it is made to fail in,
+     * CDROM_WHY_..; whether zeros stand in the place of its code. 0 is none, and at most one of the last three is not 0. */
+    uint16_t sector_kind, damaged, why, has_no_code;
 };
 
 /* The writer of the calls. It looks at the library's chip, so that what it asks for is often possible: blind calls would hardly ever

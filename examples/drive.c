@@ -82,8 +82,9 @@ static void expect_frame(uint16_t frame)
     tell("firmware", what, cdrom_chip_set_expected(&drive.chip, 0, SECOND, frame), CDROM_DONE);
 }
 
-/* What to do about a bad sector. With the address alone it was read well: the seek went wrong, or it is another disc. Else the reading
- * did, by dirt or a scratch; the address may then be as wrong as the rest. */
+/* What to do about a bad sector of this disc, which is all mode 1. With the address alone it was read well: the seek went wrong, or it is
+ * another disc. Else the reading did, by dirt or a scratch; the address may then be as wrong as the rest. In mode 2 the code does not cover
+ * the address, and the address alone may be a damaged byte: there read it again once before seeking. */
 static void ask_why(uint32_t expected)
 {
     uint32_t why = cdrom_chip_why(&drive.chip);

@@ -4,9 +4,9 @@
  *   make examples && valgrind --error-exitcode=1 --leak-check=full -q target/examples/lengths
  *
  * All that is lent lies in heap blocks of exactly that length, so that valgrind sees any byte that is touched beyond. Rings, the words'
- * room, the bench's buffers, the record of an opening and all but the user bytes of a sector that is sealed are left as malloc gives
- * them: valgrind then sees whether a byte that nobody wrote decides an answer. The exit status is 1 where an answer is not the one that
- * is expected. */
+ * room, the bench's buffers, the record of an opening, all but the user bytes of a sector that is sealed, and the subheader where it does
+ * not matter are left as malloc gives them: valgrind then sees whether a byte that nobody wrote decides an answer. The exit status is 1
+ * where an answer is not the one that is expected. */
 #include <stdio.h>
 #include <stdlib.h>
 #include <string.h>
@@ -76,6 +76,15 @@ static struct lent lend_sector(void)
     return sector;
 }
 
+/* A subheader of four bytes with the form bit of the kind; for mode 1, where it does not matter, as malloc gives it. */
+static struct lent lend_subheader(uint16_t kind)
+{
+    struct lent subheader = lend(CDROM_SUBHEADER_BYTES);
+    if (kind != CDROM_MODE1)
+        memset(subheader.bytes, kind == CDROM_FORM2 ? CDROM_SUBMODE_FORM2 : 0, subheader.length);
+    return subheader;
+}
+
 /* -- Sectors ------------------------------------------------------------------------------------------------------------------- */
 
 /* A wrong length comes before a bad address. */
@@ -91,13 +100,42 @@ static void refuse_sector(size_t length)
     take_back_stale("a refused sector", sector);
 }
 
-static void take_sector(void)
+/* Of an unknown kind too, and of one whose form bit is another's: the length comes first. */
+static void refuse_kinds(size_t length)
 {
-    struct lent sector = lend_sector();
+    struct lent sector = lend_stale(length), subheader = lend_subheader(CDROM_FORM1);
+    for (uint16_t kind = 0; kind <= 4; kind++) {
+        uint32_t answer = cdrom_seal_xa(sector.bytes, length, 0, 2, 0, kind, subheader.bytes);
+        expect("seal_xa", length, answer, CDROM_WRONG_LENGTH);
+        answer = cdrom_seal_xa(sector.bytes, length, 0, 60, 0, kind, subheader.bytes);
+        expect("seal_xa at 00:60:00", length, answer, CDROM_WRONG_LENGTH);
+    }
+    free(subheader.block);
+    take_back_stale("a refused sector", sector);
+}
+
+static void take_opened(struct lent sector)
+{
     expect("open", sector.length, cdrom_open(sector.bytes, sector.length), CDROM_DONE);
     expect("judge", sector.length, cdrom_judge(sector.bytes, sector.length, 0, 2, 0), CDROM_DONE);
     expect("parity", sector.length, cdrom_parity(sector.bytes, sector.length), PARITY_HOLDS);
+}
+
+/* By cdrom_seal, and of each kind by cdrom_seal_xa; of the latter too nothing but the user bytes is set. */
+static void take_sectors(void)
+{
+    struct lent sector = lend_sector();
+    take_opened(sector);
     free(sector.block);
+    for (uint16_t kind = CDROM_MODE1; kind <= CDROM_FORM2; kind++) {
+        struct lent other = lend(CDROM_SECTOR_BYTES), subheader = lend_subheader(kind);
+        memset(other.bytes + CDROM_USER_OFFSET_OF(kind), 1, CDROM_USER_BYTES_OF(kind));
+        expect("seal_xa", kind, cdrom_seal_xa(other.bytes, other.length, 0, 2, 0, kind, subheader.bytes), CDROM_DONE);
+        take_opened(other);
+        expect("kind", kind, (size_t)CDROM_KIND_OF(other.bytes), kind);
+        free(other.block);
+        free(subheader.block);
+    }
 }
 
 /* The code by its definition, bit by bit. */
@@ -123,9 +161,11 @@ static void code_of(size_t length)
 static void sectors(void)
 {
     static const size_t lengths[] = {0, 1, 12, 2064, 2340, CDROM_SECTOR_BYTES - 1, CDROM_SECTOR_BYTES + 1, 2 * CDROM_SECTOR_BYTES};
-    for (size_t place = 0; place < sizeof lengths / sizeof lengths[0]; place++)
+    for (size_t place = 0; place < sizeof lengths / sizeof lengths[0]; place++) {
         refuse_sector(lengths[place]);
-    take_sector();
+        refuse_kinds(lengths[place]);
+    }
+    take_sectors();
     for (size_t length = 0; length <= 130; length++)
         code_of(length);
     for (size_t length = 2062; length <= 2066; length++)
@@ -304,6 +344,7 @@ static void rings_and_words(void)
 
 /* -- The bench ----------------------------------------------------------------------------------------------------------------- */
 
+/* The second sector line's subheader is of the other form: that is tested before the memory's length, as its address is. */
 static const char lines[] =
     "call=open ring=3\n"
     "call=write reg=154 value=32\n"
@@ -311,10 +352,16 @@ static const char lines[] =
     "call=write reg=10 value=128\n"
     "call=sector min=0 sec=2 frame=0 fill=65\n"
     "call=word\n"
+    "call=kind number=3\n"
+    "call=sector min=0 sec=2 frame=1 fill=66\n"
+    "call=subheader file=0 channel=0 submode=32 coding=0\n"
+    "call=sector min=0 sec=2 frame=1 fill=66\n"
     "call=look";
 #define SECTOR_LINE 5
 #define WORD_LINE 6
-#define ENDED_LINES 6
+#define OTHER_FORM_LINE 8
+#define FORM2_LINE 10
+#define ENDED_LINES 10
 
 /* The reply number in the answer to a line, from 1. */
 static unsigned answer_to(unsigned line, const uint8_t *out, size_t size)
@@ -342,6 +389,8 @@ struct benched {
     unsigned lines;
     unsigned sector;
     unsigned word;
+    unsigned other_form;
+    unsigned form2;
 };
 
 /* The lines over memory, sector buffer and room of these lengths, all as malloc gives them. */
@@ -352,7 +401,8 @@ static struct benched run(size_t memory_length, size_t sector_length, size_t out
     memcpy(text.bytes, lines, text.length);
     size_t size = cdrom_bench(memory.bytes, memory.length, sector.bytes, sector.length, text.bytes, text.length, out.bytes, out.length);
     struct benched benched = {count_lines(out.bytes, size), answer_to(SECTOR_LINE, out.bytes, size),
-                              answer_to(WORD_LINE, out.bytes, size)};
+                              answer_to(WORD_LINE, out.bytes, size), answer_to(OTHER_FORM_LINE, out.bytes, size),
+                              answer_to(FORM2_LINE, out.bytes, size)};
     free(memory.block);
     free(sector.block);
     free(out.block);
@@ -370,11 +420,14 @@ static void bench(void)
         expect("bench lines", length, benched.lines, ENDED_LINES);
         expect("bench sector", length, benched.sector, length < RING_BYTES ? CDROM_WRONG_LENGTH : CDROM_DONE);
         expect("bench word", length, benched.word, length < RING_BYTES ? CDROM_WRONG_LENGTH : CDROM_SWITCHES);
+        expect("bench sector of the other form", length, benched.other_form, CDROM_OUT_OF_RANGE);
+        expect("bench form 2", length, benched.form2, length < RING_BYTES ? CDROM_WRONG_LENGTH : CDROM_DONE);
     }
     for (size_t place = 0; place < sizeof sector_lengths / sizeof sector_lengths[0]; place++) {
         size_t length = sector_lengths[place];
         struct benched benched = run(CDROM_RING_BYTES, length, room);
         expect("bench sector buffer", length, benched.sector, CDROM_WRONG_LENGTH);
+        expect("bench sector buffer", length, benched.other_form, CDROM_WRONG_LENGTH);
         expect("bench word", length, benched.word, CDROM_SWITCHES);
     }
     expect("bench room", 0, run(CDROM_RING_BYTES, CDROM_SECTOR_BYTES, 0).lines, 0);

@@ -1,6 +1,6 @@
-/* An engineer's own code for a part of the chip; own.h says which. Built with -DFAULT=1 to 10 it has a slip, so that one can see
+/* An engineer's own code for a part of the chip; own.h says which. Built with -DFAULT=1 to 15 it has a slip, so that one can see
  * examples/against.c find it: 1 to 5 are those that paper 01 tells of other boards, 6 and 7 are in telling what failed of a sector, 8 to 10
- * in the byte bound of a start. */
+ * in the byte bound of a start, 11 to 15 in the kinds of sectors. */
 #include "own.h"
 
 #ifndef FAULT
@@ -8,7 +8,8 @@
 #endif
 
 enum { DONE, WRONG_LENGTH, NO_REGISTER, OUT_OF_RANGE, BARRED, SWITCHES, TOO_FEW, DECODING_OFF, HELD, NO_ROOM };
-enum { BLOCK_BYTES = 2560, SECTOR_BYTES = 2352, CODE_AT = 2064 };
+enum { BLOCK_BYTES = 2560, SECTOR_BYTES = 2352 };
+enum { MODE_1 = 1, MODE_2 = 2, FORM_BIT = 0x20 };
 enum { DECEN = 0x80, ADTT = 0x04, ADCEN = 0x40, STWCEN = 0x08, BSY = 0x80, DRQ = 0x08, STAERR = 0x40, HCEI = 0x01 };
 enum { BLIMEN = 0x20, BLIMS = 0x10, ACMEN = 0x40, TCINCEN = 0x20, ATLIM = 0x1F };
 enum { WHY_SYNC = 8, WHY_MODE = 4, WHY_EDC = 2, WHY_ADDRESS = 1 };
@@ -65,13 +66,45 @@ static bool has_sync(const uint8_t *block)
     return fits;
 }
 
+/* In mode 2 the subheader stands twice. */
+static bool has_mode(const uint8_t *block)
+{
+    if (block[15] != MODE_2)
+        return block[15] == MODE_1;
+    bool fits = true;
+    for (int place = 16; place < 20; place++)
+        fits &= block[place] == block[place + 4];
+    return fits || FAULT == 12;
+}
+
+enum kind { OF_MODE_1, OF_FORM_1, OF_FORM_2 };
+
+/* A sector of another mode goes by the rule of mode 1. */
+static enum kind kind_of(const uint8_t *block)
+{
+    if (FAULT == 15 ? block[15] == MODE_1 : block[15] != MODE_2)
+        return OF_MODE_1;
+    return block[FAULT == 11 ? 22 : 18] & FORM_BIT ? OF_FORM_2 : OF_FORM_1;
+}
+
+/* Four zeros say that there is none. */
+static bool may_lack_code(enum kind kind)
+{
+    return (kind == OF_FORM_2 && FAULT != 14) || (kind == OF_FORM_1 && FAULT == 13);
+}
+
+/* The code stands just behind what it covers. */
 static bool has_code(const uint8_t *block)
 {
-    uint32_t code = code_of(block, CODE_AT);
-    bool fits = true;
-    for (int place = 0; place < 4; place++)
-        fits &= block[CODE_AT + place] == (uint8_t)(code >> 8 * place);
-    return fits;
+    static const struct {
+        uint16_t first, end;
+    } covered[] = {[OF_MODE_1] = {0, 2064}, [OF_FORM_1] = {16, 2072}, [OF_FORM_2] = {16, 2348}};
+    enum kind kind = kind_of(block);
+    uint16_t first = covered[kind].first, end = covered[kind].end;
+    uint32_t stored = 0;
+    for (int place = 3; place >= 0; place--)
+        stored = stored << 8 | block[end + place];
+    return (stored == 0 && may_lack_code(kind)) || stored == code_of(block + first, (size_t)(end - first));
 }
 
 static bool has_address(const uint8_t *block, struct own_address expected)
@@ -85,7 +118,7 @@ static uint8_t judge(const uint8_t *block, struct own_address expected)
     uint8_t why = 0;
     if (!has_sync(block))
         why |= WHY_SYNC;
-    if (block[15] != 1)
+    if (!has_mode(block))
         why |= WHY_MODE;
     if (!has_code(block) && !(FAULT == 7 && why & WHY_SYNC))
         why |= WHY_EDC;

@@ -1,5 +1,5 @@
-/* An engineer's own code for a part of the chip, to be held against the library (docs/FIRMWARE.md): the decoder's side, skips, and
- * transfers that the firmware starts. It needs no C library and no operating system.
+/* An engineer's own code for a part of the chip, to be held against the library (docs/FIRMWARE.md): the decoder's side with sectors of all
+ * three kinds, skips, and transfers that the firmware starts. It needs no C library and no operating system.
  *
  * Left out, and not compared: packets, status completion and signature; transfers that start by themselves (ATTEN); of 18h all but
  * ADCEN and STWCEN, of the status all but BSY and DRQ; 07h, 31h, 32h, 37h, 3Dh and 3Eh; writes of 9Dh; setting T; chip reset. */

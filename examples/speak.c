@@ -17,7 +17,27 @@
 #define MOST_NUMBERS 4
 
 /* What a line looks like, NONE a malformed one; a # is a number from 0 to 65,535. */
-enum form { OPEN, READ, WRITE, BLOCK, WINDOW, ADDRESS, PACKET, RESET, LOOK, WORD, COMMAND, SEND, STATUS, SRST, SECTOR, SCRATCH, NONE };
+enum form {
+    OPEN,
+    READ,
+    WRITE,
+    BLOCK,
+    WINDOW,
+    ADDRESS,
+    PACKET,
+    RESET,
+    LOOK,
+    WORD,
+    COMMAND,
+    SEND,
+    STATUS,
+    SRST,
+    SECTOR,
+    SCRATCH,
+    KIND,
+    SUBHEADER,
+    NONE
+};
 static const char *const forms[NONE] = {
     "call=open ring=#",
     "call=read reg=#",
@@ -35,6 +55,8 @@ static const char *const forms[NONE] = {
     "call=srst",
     "call=sector min=# sec=# frame=# fill=#",
     "call=scratch from=# count=#",
+    "call=kind number=#",
+    "call=subheader file=# channel=# submode=# coding=#",
 };
 
 /* One byte more than a line may have, to see that it is too long. */
@@ -43,13 +65,14 @@ struct line {
     size_t length;
 };
 
-/* The chip, where one was opened; its ring is the front of the memory. The scratch is the disc's, and no call of the chip touches it:
- * so many bytes of the next sector that is taken arrive inverted. */
+/* The chip, where one was opened; its ring is the front of the memory. The rest is the disc's, and no call of the chip touches it: so many
+ * bytes of the next sector that is taken arrive inverted; and the kind and the subheader that all sectors have until others are named. */
 static struct {
     cdrom_chip chip;
     uint8_t memory[MOST_BLOCKS * CDROM_BLOCK_BYTES];
     size_t ring_bytes;
-    uint16_t scratch_from, scratch_count;
+    uint16_t scratch_from, scratch_count, kind;
+    uint8_t subheader[CDROM_SUBHEADER_BYTES];
 } bench;
 
 /* -- Lines --------------------------------------------------------------------------------------------------------------------- */
@@ -103,7 +126,7 @@ static enum form form_of(const struct line *line, uint16_t *numbers)
 
 /* -- Calls --------------------------------------------------------------------------------------------------------------------- */
 
-/* A refused opening keeps the chip there was, and the scratch. */
+/* A refused opening keeps the chip there was, and what was said of the disc. */
 static uint32_t open_ring(uint16_t blocks)
 {
     cdrom_chip opened;
@@ -112,18 +135,21 @@ static uint32_t open_ring(uint16_t blocks)
         bench.chip = opened;
         bench.ring_bytes = (size_t)blocks * CDROM_BLOCK_BYTES;
         bench.scratch_count = 0;
+        bench.kind = CDROM_MODE1;
+        memset(bench.subheader, 0, sizeof bench.subheader);
     }
     return answer;
 }
 
-/* A sector whose user bytes are all equal, with its scratch. One that is refused leaves the scratch to the next. */
+/* A sector of the kind that was named, whose user bytes are all equal, with its scratch. One that is refused leaves the scratch to the
+ * next. */
 static uint32_t sector(const uint16_t *n)
 {
     uint8_t bytes[CDROM_SECTOR_BYTES] = {0};
     if (n[3] > 0xFF)
         return CDROM_OUT_OF_RANGE;
-    memset(bytes + CDROM_USER_OFFSET, n[3], CDROM_USER_BYTES);
-    uint32_t sealed = cdrom_seal(bytes, sizeof bytes, n[0], n[1], n[2]);
+    memset(bytes + CDROM_USER_OFFSET_OF(bench.kind), n[3], CDROM_USER_BYTES_OF(bench.kind));
+    uint32_t sealed = cdrom_seal_xa(bytes, sizeof bytes, n[0], n[1], n[2], bench.kind, bench.subheader);
     if (sealed != CDROM_DONE)
         return sealed;
     for (size_t place = 0; place < bench.scratch_count; place++)
@@ -141,6 +167,24 @@ static uint32_t scratch(uint16_t from, uint16_t count)
         return CDROM_OUT_OF_RANGE;
     bench.scratch_from = from;
     bench.scratch_count = count;
+    return CDROM_DONE;
+}
+
+static uint32_t kind(uint16_t number)
+{
+    if (number < CDROM_MODE1 || number > CDROM_FORM2)
+        return CDROM_OUT_OF_RANGE;
+    bench.kind = number;
+    return CDROM_DONE;
+}
+
+/* Whether its form bit is the kind's is asked with each sector, since either may be named first. */
+static uint32_t subheader(const uint16_t *n)
+{
+    if (n[0] > 0xFF || n[1] > 0xFF || n[2] > 0xFF || n[3] > 0xFF)
+        return CDROM_OUT_OF_RANGE;
+    for (size_t place = 0; place < sizeof bench.subheader; place++)
+        bench.subheader[place] = (uint8_t)n[place];
     return CDROM_DONE;
 }
 
@@ -173,6 +217,8 @@ static uint32_t run(enum form form, const uint16_t *n)
     case STATUS: return cdrom_chip_status(chip);
     case SRST: return cdrom_chip_srst(chip);
     case SCRATCH: return scratch(n[0], n[1]);
+    case KIND: return kind(n[0]);
+    case SUBHEADER: return subheader(n);
     default: return sector(n);
     }
 }

@@ -2,13 +2,15 @@
 //! got as far as a transfer is not taken for a thorough one.
 
 mod disc;
+mod kinds;
 
-use disc::Disc;
+use disc::Scratches;
 use ecma130::Address;
-use model::{Call, Chip, Scratch, MAX_LINE_BYTES};
+use kinds::Kinds;
+use model::{Call, Chip, Disc, MAX_LINE_BYTES};
 use std::collections::{BTreeMap, BTreeSet};
 
-/// All that is counted, but for what `disc` has.
+/// All that is counted, but for what `disc` and `kinds` have.
 const NAMES: [&str; 66] = [
     "T goes around the ring",
     "malformed line",
@@ -78,7 +80,7 @@ const NAMES: [&str; 66] = [
     "block read through a fourth window",
 ];
 
-/// A line, the call it names, its answer, the chip around it, and the scratch that waited before it.
+/// A line, the call it names, its answer, the chip around it, and the disc before it.
 pub struct Step<'a> {
     pub line: &'a [u8],
     pub call: Option<Call>,
@@ -86,7 +88,7 @@ pub struct Step<'a> {
     pub out: u16,
     pub before: Option<Chip>,
     pub after: Option<Chip>,
-    pub scratch: Scratch,
+    pub disc: Disc,
 }
 
 pub struct Happenings {
@@ -94,14 +96,26 @@ pub struct Happenings {
     answers: BTreeMap<(&'static str, u16), u64>,
     /// Offsets of the windows through which the oldest block has been read.
     windows: BTreeSet<usize>,
-    disc: Disc,
+    scratches: Scratches,
+    kinds: Kinds,
 }
 
 impl Default for Happenings {
     fn default() -> Happenings {
-        let counts = NAMES.into_iter().chain(disc::NAMES).map(|name| (name, 0)).collect();
-        Happenings { counts, answers: BTreeMap::new(), windows: BTreeSet::new(), disc: Disc::default() }
+        Happenings {
+            counts: names().map(|name| (name, 0)).collect(),
+            answers: BTreeMap::new(),
+            windows: BTreeSet::new(),
+            scratches: Scratches::default(),
+            kinds: Kinds::default(),
+        }
     }
+}
+
+/// All that is counted.
+fn names() -> impl Iterator<Item = &'static str> {
+    let stored = kinds::STORED.into_iter().map(|(_, _, name)| name);
+    NAMES.into_iter().chain(disc::NAMES).chain(kinds::NAMES).chain(stored)
 }
 
 impl Happenings {
@@ -124,6 +138,7 @@ impl Happenings {
         self.note_line(step);
         self.note_facts(step);
         self.note_disc(step);
+        self.note_kinds(step);
         let (Some(call), Some(before), Some(after)) = (step.call, step.before, step.after) else {
             return;
         };
@@ -316,6 +331,6 @@ mod tests {
 
     #[test]
     fn nothing_has_happened_at_first() {
-        assert_eq!(Happenings::default().missing().len(), NAMES.len() + disc::NAMES.len());
+        assert_eq!(Happenings::default().missing().len(), names().count());
     }
 }

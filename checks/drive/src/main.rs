@@ -101,8 +101,8 @@ fn make_script(seed: u64, count: usize, happenings: &mut Happenings) -> Script {
     let (mut writer, mut bench) = (Writer::new(seed), Bench::new());
     let mut script = Script { lines: Vec::new(), expected: Vec::new() };
     for _ in 0..count {
-        let (before, scratch) = (bench.chip().copied(), bench.scratch());
-        let line = writer.next_line(before.as_ref());
+        let (before, disc) = (bench.chip().copied(), bench.disc());
+        let line = writer.next_line(before.as_ref(), &disc);
         let printed = bench.line(&line);
         happenings.note(&Step {
             line: &line,
@@ -111,7 +111,7 @@ fn make_script(seed: u64, count: usize, happenings: &mut Happenings) -> Script {
             out: field(&printed, "out="),
             before,
             after: bench.chip().copied(),
-            scratch,
+            disc,
         });
         script.lines.push(line);
         script.expected.push(printed);

@@ -105,6 +105,11 @@ fn mixed() -> Vec<u8> {
     let mut lines = vec![STATUS, OPEN, STATUS, b"", &at, &over, STATUS, &long, &random];
     lines.extend(spoiled);
     lines.extend([&b"call=scratch from=16 count=9"[..], b"call=scratch from=65535 count=0", b"call=scratch from=16"]);
+    lines.extend([&b"call=kind number=2"[..], b"call=kind number=258", b"call=kind", b"call=kind number=2 "]);
+    lines.extend([
+        &b"call=subheader file=255 channel=255 submode=223 coding=255"[..],
+        b"call=subheader file=1 channel=2",
+    ]);
     lines.extend([&b"call=sector min=0 sec=2 frame=0 fill=7"[..], b"call=look", b"call=read reg=36"]);
     joined(&lines)
 }

@@ -5,8 +5,8 @@
 //! written by long division: it is the remainder by (z+1)(z+x). It is checked by another
 //! way, by the sums that are the values at the two roots.
 
-use crate::sector::{check_length, HEADER_START, USER_START};
-use crate::Refusal;
+use crate::sector::{check_length, HEADER_START};
+use crate::{Kind, Refusal};
 
 pub const P_PARITY_START: usize = 2076;
 pub const Q_PARITY_START: usize = 2248;
@@ -126,17 +126,34 @@ fn divide(remainder: u16, symbol: u8) -> u16 {
     remainder << 8 ^ MULTIPLES[quotient as usize]
 }
 
-/// Whether every word of a descrambled sector holds, whatever its mode byte says. In form 1 the four
-/// bytes of the header are taken as zero.
-pub fn parity_holds(sector: &[u8], header_as_zero: bool) -> Result<bool, Refusal> {
-    check_length(sector)?;
-    if header_as_zero {
-        let mut without_header = sector.to_vec();
-        without_header[HEADER_START..USER_START].fill(0);
-        return parity_holds(&without_header, false);
+/// The parity that a sector of this kind has, if it has any. In form 1 it is that of a header of zeros, which
+/// the sector does not have, so that the header is taken out and put back. The length is a sector's.
+pub fn write_parity_of(sector: &mut [u8], kind: Kind) {
+    if !kind.has_parity() {
+        return;
     }
-    let p_holds = P_PLACES.iter().all(|places| word_holds(sector, places));
-    Ok(p_holds && Q_PLACES.iter().all(|places| word_holds(sector, places)))
+    let header = sector[kind.taken_as_zero()].to_vec();
+    sector[kind.taken_as_zero()].fill(0);
+    write_parity(sector).expect("the caller has seen to the length");
+    sector[kind.taken_as_zero()].copy_from_slice(&header);
+}
+
+/// Whether every word of a descrambled sector holds, by the kind that it says it is. Form 2 has no words.
+pub fn parity_holds(sector: &[u8]) -> Result<bool, Refusal> {
+    check_length(sector)?;
+    words_hold(sector, Kind::of_sector(sector))
+}
+
+/// The same by the rule of a kind, whatever the sector says.
+pub fn words_hold(sector: &[u8], kind: Kind) -> Result<bool, Refusal> {
+    check_length(sector)?;
+    let mut counted = sector.to_vec();
+    counted[kind.taken_as_zero()].fill(0);
+    let all_hold = || {
+        let p_holds = P_PLACES.iter().all(|places| word_holds(&counted, places));
+        p_holds && Q_PLACES.iter().all(|places| word_holds(&counted, places))
+    };
+    Ok(!kind.has_parity() || all_hold())
 }
 
 /// By its syndromes in both planes: the sum of the symbols, and their sum weighted by powers of x, where the
@@ -156,7 +173,7 @@ fn word_holds(sector: &[u8], places: &[u16]) -> bool {
 #[cfg(test)]
 mod tests {
     use super::*;
-    use crate::{open, seal, Address, SECTOR_BYTES};
+    use crate::{open, seal, Address, SECTOR_BYTES, USER_START};
 
     const DAMAGES: [u8; 3] = [0x01, 0x80, 0xFF];
 
@@ -176,7 +193,7 @@ mod tests {
     }
 
     fn holds(sector: &[u8]) -> bool {
-        parity_holds(sector, false).unwrap()
+        words_hold(sector, Kind::Mode1).unwrap()
     }
 
     #[test]
@@ -316,7 +333,7 @@ mod tests {
         assert!(holds(&sector));
         for (place, damage) in (HEADER_START..SECTOR_BYTES).flat_map(|place| DAMAGES.map(|damage| (place, damage))) {
             sector[place] ^= damage;
-            assert_eq!(parity_holds(&sector, true), Ok(place < USER_START), "byte {place}");
+            assert_eq!(words_hold(&sector, Kind::Form1), Ok(place < USER_START), "byte {place}");
             assert!(!holds(&sector), "byte {place}");
             sector[place] ^= damage;
         }
@@ -328,7 +345,8 @@ mod tests {
             let mut bytes = vec![3; length];
             assert_eq!(write_parity(&mut bytes), Err(Refusal::WrongLength));
             assert_eq!(write_q_parity(&mut bytes), Err(Refusal::WrongLength));
-            assert_eq!([false, true].map(|zero| parity_holds(&bytes, zero)), [Err(Refusal::WrongLength); 2]);
+            assert_eq!(Kind::ALL.map(|kind| words_hold(&bytes, kind)), [Err(Refusal::WrongLength); 3]);
+            assert_eq!(parity_holds(&bytes), Err(Refusal::WrongLength));
             assert!(bytes.iter().all(|&byte| byte == 3));
         }
     }

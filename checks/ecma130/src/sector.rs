@@ -1,16 +1,18 @@
 //! Sealing, opening and judging a sector of 2,352 bytes.
 
-use crate::{edc_sliced, scramble, write_parity, Address, Refusal, P_PARITY_START};
+use crate::kind::{CODE_BYTES, FIRST_COPY, SECOND_COPY, SUBHEADER_BYTES};
+use crate::{edc_sliced, scramble, write_parity_of, Address, Kind, Refusal, P_PARITY_START};
 
 pub const SECTOR_BYTES: usize = 2352;
+pub const SYNC: [u8; 12] = [0, 255, 255, 255, 255, 255, 255, 255, 255, 255, 255, 0];
+
+/// Of mode 1.
 pub const USER_START: usize = 16;
 pub const USER_BYTES: usize = 2048;
 pub const EDC_START: usize = 2064;
-pub const SYNC: [u8; 12] = [0, 255, 255, 255, 255, 255, 255, 255, 255, 255, 255, 0];
 
 pub(crate) const HEADER_START: usize = 12;
-const MODE_PLACE: usize = 15;
-const ZEROS_START: usize = 2068;
+pub(crate) const MODE_PLACE: usize = 15;
 
 /// What of a sector failed when it was judged. Each is a test of its own, and
 /// none hides another.
@@ -40,7 +42,7 @@ impl Facts {
     }
 }
 
-/// Writes all but the user bytes, then scrambles.
+/// Writes all but the user bytes, then scrambles: a sector of mode 1.
 pub fn seal(sector: &mut [u8], address: Address) -> Result<(), Refusal> {
     seal_with(edc_sliced, sector, address)
 }
@@ -49,15 +51,49 @@ pub fn seal(sector: &mut [u8], address: Address) -> Result<(), Refusal> {
 pub fn seal_with(edc: impl Fn(&[u8]) -> u32, sector: &mut [u8], address: Address) -> Result<(), Refusal> {
     check_length(sector)?;
     check_address(address)?;
+    write_sector(edc, sector, address, Kind::Mode1, [0; SUBHEADER_BYTES]);
+    Ok(())
+}
+
+/// A sector of the kind that a number names. Mode 1 has no use for the subheader, whatever it is.
+pub fn seal_xa(
+    sector: &mut [u8],
+    address: Address,
+    kind: u16,
+    subheader: [u8; SUBHEADER_BYTES],
+) -> Result<(), Refusal> {
+    check_length(sector)?;
+    check_address(address)?;
+    let kind = Kind::of_number(kind).ok_or(Refusal::UnknownKind)?;
+    if !kind.agrees_with(subheader) {
+        return Err(Refusal::OtherForm);
+    }
+    write_sector(edc_sliced, sector, address, kind, subheader);
+    Ok(())
+}
+
+fn write_sector(
+    edc: impl Fn(&[u8]) -> u32,
+    sector: &mut [u8],
+    address: Address,
+    kind: Kind,
+    subheader: [u8; SUBHEADER_BYTES],
+) {
     sector[..HEADER_START].copy_from_slice(&SYNC);
     sector[HEADER_START..MODE_PLACE].copy_from_slice(&address.bcd());
-    sector[MODE_PLACE] = 1;
-    let code = edc(&sector[..EDC_START]);
-    sector[EDC_START..ZEROS_START].copy_from_slice(&code.to_le_bytes());
-    sector[ZEROS_START..P_PARITY_START].fill(0);
-    write_parity(sector)?;
+    sector[MODE_PLACE] = kind.mode_byte();
+    if kind.has_subheader() {
+        sector[FIRST_COPY].copy_from_slice(&subheader);
+        sector[SECOND_COPY].copy_from_slice(&subheader);
+    }
+    let code = edc(&sector[kind.covered()]);
+    sector[kind.code()].copy_from_slice(&code.to_le_bytes());
+    if kind.has_parity() {
+        // Eight bytes in mode 1 and none in form 1.
+        sector[kind.code().end..P_PARITY_START].fill(0);
+    }
+    write_parity_of(sector, kind);
     scramble(&mut sector[HEADER_START..]);
-    Ok(())
 }
 
 /// Descrambles; the sync bytes are never scrambled.
@@ -67,7 +103,7 @@ pub fn open(sector: &mut [u8]) -> Result<(), Refusal> {
     Ok(())
 }
 
-/// Judges a descrambled sector.
+/// Judges a descrambled sector by the kind that it says it is.
 pub fn judge(sector: &[u8], expected: Address) -> Result<Facts, Refusal> {
     judge_with(edc_sliced, sector, expected)
 }
@@ -76,13 +112,25 @@ pub fn judge(sector: &[u8], expected: Address) -> Result<Facts, Refusal> {
 pub fn judge_with(edc: impl Fn(&[u8]) -> u32, sector: &[u8], expected: Address) -> Result<Facts, Refusal> {
     check_length(sector)?;
     check_address(expected)?;
-    let stored = &sector[EDC_START..ZEROS_START];
+    let kind = Kind::of_sector(sector);
+    let stored = &sector[kind.code()];
+    // In form 2 a code of zeros says that none was written.
+    let has_code = kind != Kind::Form2 || stored != [0; CODE_BYTES];
     Ok(Facts {
         sync: sector[..HEADER_START] != SYNC,
-        mode: sector[MODE_PLACE] != 1,
-        edc: stored != edc(&sector[..EDC_START]).to_le_bytes(),
+        mode: !has_valid_mode(sector),
+        edc: has_code && stored != edc(&sector[kind.covered()]).to_le_bytes(),
         address: sector[HEADER_START..MODE_PLACE] != expected.bcd(),
     })
+}
+
+/// Mode 1, or mode 2 with the same subheader twice. The copies are compared in mode 2 alone.
+fn has_valid_mode(sector: &[u8]) -> bool {
+    match sector[MODE_PLACE] {
+        1 => true,
+        2 => sector[FIRST_COPY] == sector[SECOND_COPY],
+        _ => false,
+    }
 }
 
 pub(crate) fn check_length(sector: &[u8]) -> Result<(), Refusal> {
@@ -106,6 +154,7 @@ mod tests {
     use super::*;
     use crate::{edc_bitwise, parity_holds};
 
+    const ZEROS_START: usize = 2068;
     const ADDRESS: Address = Address::new(12, 34, 56);
 
     fn opened_sector() -> Vec<u8> {
@@ -121,7 +170,7 @@ mod tests {
         assert!((USER_START..EDC_START).all(|place| sector[place] == (place * 7) as u8));
         assert_eq!(sector[ZEROS_START..P_PARITY_START], [0; 8]);
         assert!(judge(&sector, ADDRESS).unwrap().is_good());
-        assert_eq!(parity_holds(&sector, false), Ok(true));
+        assert_eq!(parity_holds(&sector), Ok(true));
     }
 
     #[test]
@@ -187,7 +236,7 @@ mod tests {
     fn crafted(facts: Facts) -> Vec<u8> {
         let mut sector = opened_sector();
         sector[11] ^= facts.sync as u8;
-        sector[MODE_PLACE] ^= 3 * facts.mode as u8;
+        sector[MODE_PLACE] ^= 2 * facts.mode as u8;
         sector[14] ^= facts.address as u8;
         let mut sector = with_code(sector);
         sector[2067] ^= 0x80 * facts.edc as u8;

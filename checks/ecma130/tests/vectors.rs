@@ -1,7 +1,7 @@
-//! All records of the outside vectors.
+//! All records of the outside vectors, of each kind.
 
-use ecma130::{edc_bitwise, edc_by_table, edc_sliced, judge, open, parity_holds, scramble, seal, write_parity};
-use ecma130::{Address, EDC_START, P_PARITY_START, SECTOR_BYTES};
+use ecma130::{edc_bitwise, edc_by_table, edc_sliced, judge, open, parity_holds, scramble, seal, seal_xa, words_hold};
+use ecma130::{Address, Kind, Refusal, P_PARITY_START, SECTOR_BYTES};
 use records::Record;
 
 fn address(record: &Record) -> Address {
@@ -9,37 +9,56 @@ fn address(record: &Record) -> Address {
     Address::new(minute, second, frame)
 }
 
+fn kind(record: &Record) -> Kind {
+    Kind::of_number(record.kind).expect("a kind of the vectors")
+}
+
 #[test]
-fn mode_1_records_seal_open_and_judge() {
+fn every_record_is_sealed_opened_judged_and_checked() {
     let records = records::read();
-    let mode_1: Vec<_> = records.iter().filter(|record| record.is_mode_1()).collect();
-    assert_eq!(mode_1.len(), 11);
-    for record in mode_1 {
-        check_address(record);
-        check_edc(record);
-        check_seal(record);
-        check_open_and_judge(record);
+    for kind in [1, 2, 3] {
+        assert_eq!(records.iter().filter(|record| record.kind == kind).count(), 11);
+    }
+    for record in records {
+        check_header(&record);
+        check_edc(&record);
+        check_seal(&record);
+        check_open_and_judge(&record);
     }
 }
 
-fn check_address(record: &Record) {
+fn check_header(record: &Record) {
     let [minute, second, frame] = record.address;
     assert!(address(record).is_valid());
     assert_eq!(address(record).bcd(), record.bcd[..]);
     assert_eq!((minute as u32 * 60 + second as u32) * 75 + frame as u32, record.absolute_frame);
+    assert_eq!(Kind::of_sector(&record.clear), kind(record));
+    assert_eq!((record.clear[15], kind(record).mode_byte()), (record.mode, record.mode));
+    assert_eq!(record.subheaders[0], record.subheaders[1]);
+    assert_eq!(record.clear[kind(record).user()], record.user);
+    if kind(record).has_subheader() {
+        assert_eq!(record.clear[16..24], record.subheaders.concat());
+    }
 }
 
 fn check_edc(record: &Record) {
-    let covered = &record.clear[..EDC_START];
-    assert_eq!(edc_bitwise(covered).to_le_bytes(), record.edc[..]);
-    assert_eq!(edc_by_table(covered).to_le_bytes(), record.edc[..]);
-    assert_eq!(edc_sliced(covered).to_le_bytes(), record.edc[..]);
+    let covered = &record.clear[kind(record).covered()];
+    assert_eq!(record.clear[kind(record).code()], record.edc);
+    for edc in [edc_bitwise, edc_by_table, edc_sliced] {
+        assert_eq!(edc(covered).to_le_bytes(), record.edc[..]);
+    }
 }
 
+/// Over spoiled bytes; by the call that knows mode 1 alone too.
 fn check_seal(record: &Record) {
     let mut sector = record.unsealed();
-    seal(&mut sector, address(record)).unwrap();
+    seal_xa(&mut sector, address(record), record.kind, record.subheader()).unwrap();
     assert_eq!(sector, record.scrambled);
+    if record.is_mode_1() {
+        let mut sector = record.unsealed();
+        seal(&mut sector, address(record)).unwrap();
+        assert_eq!(sector, record.scrambled);
+    }
 }
 
 fn check_open_and_judge(record: &Record) {
@@ -48,49 +67,49 @@ fn check_open_and_judge(record: &Record) {
     assert_eq!(sector, record.clear);
     assert!(judge(&sector, address(record)).unwrap().is_good());
     assert_eq!(judge(&sector, address(record).next()).unwrap().why(), 1);
+    assert_eq!(parity_holds(&sector), Ok(true));
+    seal_xa(&mut sector, address(record), record.kind, record.subheader()).unwrap();
+    assert_eq!(sector, record.scrambled);
 }
 
 #[test]
-fn every_record_is_scrambled_alike_and_mode_2_is_not_mode_1() {
+fn a_record_is_not_sealed_as_the_other_form() {
+    for record in records::read().iter().filter(|record| !record.is_mode_1()) {
+        let mut sector = record.unsealed();
+        let other = 5 - record.kind;
+        assert_eq!(seal_xa(&mut sector, address(record), other, record.subheader()), Err(Refusal::OtherForm));
+        assert_eq!(sector, record.unsealed());
+    }
+}
+
+#[test]
+fn every_record_is_scrambled_alike() {
     for record in records::read() {
         let mut sector = record.clear.clone();
         scramble(&mut sector[12..]);
         assert_eq!(sector, record.scrambled);
-        // By the mode 1 rule a sector of mode 2 has no code either: user bytes stand in its place.
-        let why = if record.is_mode_1() { 0 } else { 6 };
-        assert_eq!(judge(&record.clear, address(&record)).unwrap().why(), why);
     }
 }
 
-/// Form 2 has no parity.
+/// Form 2 has no parity: user bytes and the code stand there.
 #[test]
-fn parity_holds_in_mode_1_and_with_the_header_as_zero_in_form_1() {
-    let records = records::read();
-    assert_eq!(records.iter().filter(|record| record.is_form_1()).count(), 11);
-    for record in records {
-        assert_eq!(parity_holds(&record.clear, false), Ok(record.is_mode_1()));
-        assert_eq!(parity_holds(&record.clear, true), Ok(record.is_form_1()));
+fn words_hold_by_the_rule_of_the_record_and_not_by_the_other() {
+    for record in records::read() {
+        assert_eq!(words_hold(&record.clear, Kind::Mode1), Ok(record.is_mode_1()));
+        assert_eq!(words_hold(&record.clear, Kind::Form1), Ok(record.is_form_1()));
+        assert_eq!(words_hold(&record.clear, Kind::Form2), Ok(true));
     }
 }
 
 #[test]
-fn form_1_has_the_parity_of_a_header_of_zeros() {
-    for record in records::read().iter().filter(|record| record.is_form_1()) {
-        let mut sector = record.clear.clone();
-        sector[12..16].fill(0);
-        sector[P_PARITY_START..].iter_mut().for_each(|byte| *byte = !*byte);
-        write_parity(&mut sector).unwrap();
-        assert_eq!(sector[P_PARITY_START..], record.clear[P_PARITY_START..]);
-    }
-}
-
-#[test]
-fn a_wrong_parity_byte_is_seen() {
-    for record in records::read().iter().filter(|record| record.is_mode_1() || record.is_form_1()) {
+fn a_wrong_byte_at_the_end_is_seen_by_parity_or_else_by_the_code() {
+    for record in records::read() {
         for place in P_PARITY_START..SECTOR_BYTES {
             let mut sector = record.clear.clone();
             sector[place] ^= 1 << (place % 8);
-            assert_eq!(parity_holds(&sector, record.is_form_1()), Ok(false), "byte {place}");
+            let (holds, why) = if kind(&record).has_parity() { (false, 0) } else { (true, 2) };
+            assert_eq!(parity_holds(&sector), Ok(holds), "byte {place}");
+            assert_eq!(judge(&sector, address(&record)).unwrap().why(), why, "byte {place}");
         }
     }
 }

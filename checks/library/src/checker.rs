@@ -4,21 +4,18 @@
 use crate::buffers::Buffers;
 use crate::call::{Answer, Call};
 use crate::difference::{same, same_rows, Difference, Part};
-use crate::expectation::{judged, parity_checked, sealed};
-use crate::happenings::{parity_name, Happenings};
+use crate::happenings::Happenings;
 use crate::library::Library;
 use crate::memory::Memory;
 use crate::noting::Step;
-use crate::parity::MAKINGS;
 use crate::record::{self, Record};
 use crate::soundness::faults;
 use crate::state::{compare_records, State};
-use ecma130::Address;
 use model::Random;
 
 pub struct Checker<'a, L: Library> {
-    library: &'a mut L,
-    random: Random,
+    pub(crate) library: &'a mut L,
+    pub(crate) random: Random,
     pub happenings: Happenings,
     /// Calls made so far.
     pub calls: u64,
@@ -74,52 +71,6 @@ impl<'a, L: Library> Checker<'a, L> {
         compare_records(&kept, record)
     }
 
-    /// The calls that need no chip, at each sector that a chip is given: that sector, whether or not the
-    /// chip takes it, a buffer of its length, and a sector that was made for the parity check.
-    fn compare_beside(&mut self, call: &Call, record: &Record, buffers: &Buffers) -> Result<(), Part> {
-        let Call::Sector { sector, .. } = call else {
-            return Ok(());
-        };
-        let (opened, address) = (buffers.opened_sector(), record::expected(record));
-        self.compare_judging(&opened, address)?;
-        self.compare_parity(&opened)?;
-        self.compare_sealing(sector.length, address)?;
-        let making = self.random.pick(&MAKINGS);
-        let made = making.make(&mut self.random);
-        let found = self.compare_parity(&made)?;
-        same("the parity check by how the sector was made, given as the model's", making.answer, found)?;
-        self.happenings.count(&parity_name(making.name));
-        Ok(())
-    }
-
-    fn compare_judging(&mut self, opened: &[u8], expected: Address) -> Result<(), Part> {
-        let mut lent = opened.to_vec();
-        let (wanted, found) = (judged(opened, expected), self.library.judge(&mut lent, expected));
-        same("the judgement", wanted, found)?;
-        same_rows("the judged sector, byte", opened, &lent)?;
-        self.happenings.note_judged(&wanted);
-        Ok(())
-    }
-
-    fn compare_parity(&mut self, opened: &[u8]) -> Result<Answer, Part> {
-        let mut lent = opened.to_vec();
-        let found = self.library.parity(&mut lent);
-        same("the parity check", parity_checked(opened), found)?;
-        same_rows("the checked sector, byte", opened, &lent)?;
-        Ok(found)
-    }
-
-    /// Over stale bytes, so that all but the user bytes must be written.
-    fn compare_sealing(&mut self, length: usize, address: Address) -> Result<(), Part> {
-        let mut expected = self.random.bytes(length);
-        let mut lent = expected.clone();
-        let (wanted, found) = (sealed(&mut expected, address), self.library.seal(&mut lent, address));
-        same("the sealing", wanted, found)?;
-        same_rows("the sealed sector, byte", &expected, &lent)?;
-        self.happenings.note_sealed(&wanted);
-        Ok(())
-    }
-
     /// At the end of a run.
     pub fn compare_whole(&self, memory: &Memory, state: &State) -> Result<(), Box<Difference>> {
         let compared = differing_byte(memory, memory.whole_difference());
@@ -164,7 +115,7 @@ fn agree_with_paper(step: &Step) -> Result<(), Part> {
         same("soundness of a record that is sound by its words", chip.is_sound(), true)?;
     }
     match (step.call, &step.before.chip) {
-        (Call::Sector { sector, .. }, Some(chip)) if step.answer.is_done() && sector.address == chip.expected => {
+        (Call::Sector { sector, .. }, Some(chip)) if step.answer.is_done() && sector.is_known(chip.expected) => {
             let (bits, why) = (sector.damage.bits(), sector.damage.why());
             same("80h by the sector's damage, given as the library's", step.answer.result(), bits)?;
             same("why by the sector's damage, given as the library's", record::why(&step.after.record), why)

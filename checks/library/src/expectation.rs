@@ -2,7 +2,7 @@
 
 use crate::call::{Answer, Call};
 use crate::library::Lent;
-use ecma130::{judge, parity_holds, seal, Address, Refusal};
+use ecma130::{judge, parity_holds, seal, seal_xa, Address, Refusal};
 use model::Chip;
 
 /// Runs the call on the model and on the memory that it is lent, and gives the answer.
@@ -41,9 +41,14 @@ pub fn sealed(sector: &mut [u8], address: Address) -> Answer {
     reply(seal(sector, address).map(|()| 0))
 }
 
-/// The result is 1 where every word holds.
+/// Writes the sector of a kind.
+pub fn sealed_xa(sector: &mut [u8], address: Address, kind: u16, subheader: [u8; 4]) -> Answer {
+    reply(seal_xa(sector, address, kind, subheader).map(|()| 0))
+}
+
+/// The result is 1 where every word holds that the sector has.
 pub fn parity_checked(sector: &[u8]) -> Answer {
-    reply(parity_holds(sector, false).map(u32::from))
+    reply(parity_holds(sector).map(u32::from))
 }
 
 fn reply(answer: Result<u32, Refusal>) -> Answer {

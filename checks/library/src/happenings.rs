@@ -2,7 +2,9 @@
 //! got as far as a transfer is not taken for a thorough one.
 
 use crate::limits::{NEIGHBOURS, SPOILINGS};
-use crate::parity::MAKINGS;
+use crate::sealing::UNKNOWN_KINDS;
+use crate::{judging, parity};
+use ecma130::Kind;
 use std::collections::BTreeMap;
 
 /// The reply numbers that each call can give. A look has none.
@@ -54,7 +56,7 @@ pub const WRONG_RINGS: [&str; 5] =
 const LENT_A_RING: [&str; 4] = ["sector", "look", "word", "words"];
 
 /// All else that is counted.
-const NAMES: [&str; 135] = [
+const NAMES: [&str; 148] = [
     "ring of 3 blocks opened",
     "ring of 4 blocks opened",
     "ring of 25 blocks opened",
@@ -66,7 +68,13 @@ const NAMES: [&str; 135] = [
     "good sector",
     "good sector with other bytes for its zeros",
     "good sector with wrong parity",
+    "good sector of form 1 with wrong parity",
+    "good sector of form 2 without EDC",
+    "bad sector of form 2 without EDC",
     "bad sector with right parity",
+    "sector whose kind was changed",
+    "sector whose kind was changed, mode and EDC (6)",
+    "sector whose kind was changed, EDC (2)",
     "sector with STAERR and HCEI",
     "80h read as 01h",
     "80h read as 40h",
@@ -88,6 +96,13 @@ const NAMES: [&str; 135] = [
     "sector sealed over stale bytes",
     "sealing refused, wrong length (1)",
     "sealing refused, bad address (3)",
+    "sealing by kind refused, wrong length (1)",
+    "sealing by kind refused, wrong length (1), the rest wrong too",
+    "sealing by kind refused, bad address (3)",
+    "sealing of form 1 refused, form bit high (3)",
+    "sealing of form 2 refused, form bit low (3)",
+    "mode 1 sealed with the form bit high",
+    "mode 1 sealed with the form bit low",
     "sector of 0 bytes",
     "sector of 1 byte",
     "sector of 2,351 bytes",
@@ -247,6 +262,33 @@ pub fn judged_name(why: u32) -> String {
     format!("sector judged, why {why}")
 }
 
+/// By the kind that it was made as.
+pub fn stored_kind_name(kind: Kind, why: u32) -> String {
+    format!("sector of {} stored, why {why}", kind_name(kind))
+}
+
+/// Of a kind that there is, over stale bytes.
+pub fn sealed_name(kind: Kind) -> String {
+    format!("sector of {} sealed by its kind", kind_name(kind))
+}
+
+pub fn unknown_kind_name(kind: u16) -> String {
+    format!("sealing of kind {kind} refused (3)")
+}
+
+fn kind_name(kind: Kind) -> &'static str {
+    match kind {
+        Kind::Mode1 => "mode 1",
+        Kind::Form1 => "form 1",
+        Kind::Form2 => "form 2",
+    }
+}
+
+/// Of a sector that was made to be judged.
+pub fn judging_name(making: &str) -> String {
+    format!("judged, a sector {making}")
+}
+
 /// Of a sector that was made for the parity check.
 pub fn parity_name(making: &str) -> String {
     format!("parity checked of a sector {making}")
@@ -284,7 +326,13 @@ fn demanded() -> Vec<String> {
     for call in LENT_A_RING {
         names.extend(WRONG_RINGS.map(|ring| ring_name(call, ring)));
     }
-    names.extend(MAKINGS.iter().map(|making| parity_name(making.name)));
+    for kind in Kind::ALL {
+        names.extend((0..16).map(|why| stored_kind_name(kind, why)));
+        names.push(sealed_name(kind));
+    }
+    names.extend(UNKNOWN_KINDS.map(unknown_kind_name));
+    names.extend(judging::MAKINGS.iter().map(|making| judging_name(making.name)));
+    names.extend(parity::MAKINGS.iter().map(|making| parity_name(making.name)));
     names.extend(SPOILINGS.iter().map(|change| spoiling_name(change.name)));
     names.extend(NEIGHBOURS.iter().map(|change| neighbour_name(change.name)));
     names.extend(LOADED.map(loaded_name));

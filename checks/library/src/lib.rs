@@ -3,12 +3,14 @@
 //! is compared after it.
 
 mod any_calls;
+mod beside;
 mod buffers;
 mod call;
 mod checker;
 mod difference;
 mod expectation;
 mod happenings;
+mod judging;
 mod library;
 mod limits;
 mod loading;
@@ -18,6 +20,7 @@ mod noting;
 mod parity;
 pub mod record;
 mod run;
+mod sealing;
 mod sectors;
 mod sequences;
 mod soundness;

@@ -28,6 +28,9 @@ pub trait Library {
     /// Makes a sector of bytes of any length.
     fn seal(&mut self, sector: &mut [u8], address: Address) -> Answer;
 
+    /// The same of the kind that a number names. The subheader is lent to be changed as the rest is.
+    fn seal_xa(&mut self, sector: &mut [u8], address: Address, kind: u16, subheader: &mut [u8; 4]) -> Answer;
+
     /// Checks the parity of an opened sector, of any length.
     fn parity(&mut self, sector: &mut [u8]) -> Answer;
 }
@@ -67,6 +70,13 @@ impl Library for Linked {
         let Address { minute, second, frame } = address;
         // SAFETY: pointer and length are those of a slice that is lent for the call.
         reply(unsafe { raw::cdrom_seal(sector.as_mut_ptr(), sector.len(), minute, second, frame) })
+    }
+
+    fn seal_xa(&mut self, sector: &mut [u8], address: Address, kind: u16, subheader: &mut [u8; 4]) -> Answer {
+        let Address { minute, second, frame } = address;
+        let (bytes, length) = (sector.as_mut_ptr(), sector.len());
+        // SAFETY: pointer and length are those of a slice that is lent for the call, which only reads the subheader.
+        reply(unsafe { raw::cdrom_seal_xa(bytes, length, minute, second, frame, kind, subheader) })
     }
 
     fn parity(&mut self, sector: &mut [u8]) -> Answer {

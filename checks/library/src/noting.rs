@@ -1,13 +1,13 @@
 //! What happened in a call, told from the call, its answer and the chip on both sides of it.
 
+mod sectors;
 mod starts;
 
 use crate::call::{Answer, Call};
 use crate::happenings::{
-    answer_name, judged_name, read_name, ring_name, stored_name, unsound_why_name, write_name, Happenings, WRONG_RINGS,
+    answer_name, read_name, ring_name, stored_name, unsound_why_name, write_name, Happenings, WRONG_RINGS,
 };
 use crate::record;
-use crate::sectors::{Damage, Sector, CUT_TO_FIT};
 use crate::state::State;
 use ecma130::{Address, P_PARITY_START, Q_PARITY_START};
 use model::{Chip, BLOCK_BYTES};
@@ -49,23 +49,6 @@ impl Happenings {
         }
     }
 
-    /// What judging answers beside the chip.
-    pub fn note_judged(&mut self, answer: &Answer) {
-        match answer.number() {
-            Some(0) => self.count(&judged_name(answer.result())),
-            Some(1) => self.count("judging refused, wrong length (1)"),
-            _ => self.count("judging refused, bad address (3)"),
-        }
-    }
-
-    pub fn note_sealed(&mut self, answer: &Answer) {
-        match answer.number() {
-            Some(0) => self.count("sector sealed over stale bytes"),
-            Some(1) => self.count("sealing refused, wrong length (1)"),
-            _ => self.count("sealing refused, bad address (3)"),
-        }
-    }
-
     fn note_opening(&mut self, blocks: u16, before: &State) {
         if [3, 4, 25, 26, 254, 255].contains(&blocks) {
             self.count(&format!("ring of {blocks} blocks opened"));
@@ -96,17 +79,6 @@ impl Happenings {
         }
         if let Some(ring) = step.call.lent().and_then(|lent| wrong_ring(lent, before.blocks)) {
             self.count(&ring_name(step.call.name(), ring));
-        }
-    }
-
-    fn note_sector_length(&mut self, sector: &Sector) {
-        match sector.length {
-            0 => self.count("sector of 0 bytes"),
-            1 => self.count("sector of 1 byte"),
-            2351 => self.count("sector of 2,351 bytes"),
-            2353 => self.count("sector of 2,353 bytes"),
-            CUT_TO_FIT => self.count("sector of 2,352 and 65,536 bytes"),
-            _ => {}
         }
     }
 
@@ -190,7 +162,7 @@ impl Happenings {
         let (before, after) = (step.before, step.after);
         let good = step.answer.result() == 0;
         if sector.address == before.expected {
-            self.note_damage(sector.damage);
+            self.note_taken(sector, after.facts);
         }
         self.count_if(before.transfer.is_some(), "sector taken in a transfer");
         self.count_if(before.reception.is_some(), "sector taken in a reception");
@@ -202,14 +174,6 @@ impl Happenings {
         self.count_if(full && after.blocks == 255, "ring of 255 blocks full");
         self.count_if(good && after.expected == Address::new(0, 0, 0), "address past 99:59:74");
         self.count_if(good && after.expected.minute > before.expected.minute, "address past a minute");
-    }
-
-    fn note_damage(&mut self, damage: Damage) {
-        self.count_if(!damage.is_judged(), "good sector");
-        self.count_if(!damage.is_judged() && damage.parity, "good sector with wrong parity");
-        self.count_if(damage.is_judged() && !damage.parity, "bad sector with right parity");
-        self.count_if(!damage.is_judged() && damage.zeros, "good sector with other bytes for its zeros");
-        self.count_if(damage.bits() == 0x41, "sector with STAERR and HCEI");
     }
 
     fn note_write(&mut self, step: &Done) {

@@ -1,15 +1,14 @@
-//! Sectors as they come from the disc, good and damaged. Each damage can come
+//! Sectors as they come from the disc, of each kind, good and damaged. Each damage can come
 //! alone: the code is made to fit whatever else was changed, unless the code
 //! itself is to be wrong.
 
-use ecma130::{
-    edc_by_table, scramble, write_parity, Address, EDC_START, P_PARITY_START, SECTOR_BYTES, SYNC, USER_START,
-};
+use ecma130::{edc_by_table, scramble, write_parity_of, Address, Kind};
+use ecma130::{FIRST_COPY, FORM_BIT, P_PARITY_START, SECOND_COPY, SECTOR_BYTES, SYNC};
 use model::{Random, BLOCK_BYTES};
 
 const HEADER_START: usize = 12;
 const MODE_PLACE: usize = 15;
-const ZEROS_START: usize = 2068;
+const SUBMODE: usize = 2;
 
 /// A length that is right where only its low sixteen bits are looked at.
 pub const CUT_TO_FIT: usize = SECTOR_BYTES + 65536;
@@ -17,18 +16,26 @@ pub const CUT_TO_FIT: usize = SECTOR_BYTES + 65536;
 pub const WRONG_LENGTHS: [usize; 9] =
     [0, 1, 2340, SECTOR_BYTES - 1, SECTOR_BYTES + 1, 2448, BLOCK_BYTES, 4704, CUT_TO_FIT];
 
+/// Mode bytes that are neither 1 nor 2.
+pub const ODD_MODES: [u8; 6] = [0, 3, 0x12, 0x81, 0x82, 0xFF];
+
 /// What is wrong with a sector.
 #[derive(Clone, Copy, Debug, Default, PartialEq, Eq)]
 pub struct Damage {
     pub sync: bool,
+    /// In mode 1 another mode byte, in mode 2 a subheader that is not the same twice.
     pub mode: bool,
-    /// A user byte or a byte of the code was changed after the code was taken.
+    /// A user byte or the code was changed after the code was taken.
     pub code: bool,
     pub address: bool,
-    /// The zeros behind the code, which no one judges.
+    /// The zeros behind the code of mode 1, which no one judges.
     pub zeros: bool,
-    /// Nor is the parity judged. Without this damage it is that of all the bytes before it, damaged or not.
+    /// Nor is the parity judged. Without this damage it is that of all the bytes before it, damaged or not. Form 2 has none.
     pub parity: bool,
+    /// In form 2 zeros in the place of the code: none was written. Not where the code is to be wrong.
+    pub without_code: bool,
+    /// At last a byte was changed that tells the kind, so that all else may be right or wrong by another rule.
+    pub rule: bool,
 }
 
 /// A sector by its description; the bytes that it leaves open are random.
@@ -36,13 +43,18 @@ pub struct Damage {
 pub struct Sector {
     pub length: usize,
     pub address: Address,
+    pub kind: Kind,
     pub damage: Damage,
 }
 
 impl Damage {
-    /// Any mixture of kinds, at least one of them judged.
+    /// Any mixture of kinds, at least one of them judged, or another rule.
     pub fn random(random: &mut Random) -> Damage {
-        Damage::of_why(random.between(1, 15)).with_unjudged(2, random)
+        if random.one_in(10) {
+            return Damage { rule: true, ..Damage::default().with_unjudged(2, random) };
+        }
+        let rule = random.one_in(16);
+        Damage { rule, ..Damage::of_why(random.between(1, 15)).with_unjudged(2, random) }
     }
 
     /// One kind alone.
@@ -63,9 +75,11 @@ impl Damage {
 
     /// With each of the kinds that are not judged once in so many times.
     fn with_unjudged(self, times: u64, random: &mut Random) -> Damage {
-        Damage { zeros: random.one_in(times), parity: random.one_in(times), ..self }
+        let without_code = !self.code && random.one_in(4);
+        Damage { zeros: random.one_in(times), parity: random.one_in(times), without_code, ..self }
     }
 
+    /// Where the rule is another one this says nothing.
     pub fn is_judged(self) -> bool {
         self.sync || self.mode || self.code || self.address
     }
@@ -84,42 +98,106 @@ impl Damage {
 
 impl Sector {
     pub fn good(address: Address) -> Sector {
-        Sector { length: SECTOR_BYTES, address, damage: Damage::default() }
+        Sector { length: SECTOR_BYTES, address, kind: Kind::Mode1, damage: Damage::default() }
+    }
+
+    /// Whether its damage tells what judging must tell, where this address is expected.
+    pub fn is_known(&self, expected: Address) -> bool {
+        self.address == expected && !self.damage.rule
     }
 
     /// The bytes from the disc, scrambled. The address is a valid one.
     pub fn make(&self, random: &mut Random) -> Vec<u8> {
+        let (kind, damage) = (self.kind, self.damage);
         let mut bytes = random.bytes(SECTOR_BYTES);
-        bytes[..HEADER_START].copy_from_slice(&SYNC);
-        bytes[HEADER_START..MODE_PLACE].copy_from_slice(&self.address.bcd());
-        bytes[MODE_PLACE] = 1;
-        self.spoil_header(&mut bytes, random);
-        let code = edc_by_table(&bytes[..EDC_START]);
-        bytes[EDC_START..ZEROS_START].copy_from_slice(&code.to_le_bytes());
-        if self.damage.code {
-            flip_one_of(&mut bytes[USER_START..ZEROS_START], random);
+        self.write_header(&mut bytes, random);
+        let code = edc_by_table(&bytes[kind.covered()]);
+        bytes[kind.code()].copy_from_slice(&code.to_le_bytes());
+        if damage.code {
+            spoil_code(&mut bytes, kind, random);
+        } else if damage.without_code && kind == Kind::Form2 {
+            bytes[kind.code()].fill(0);
         }
-        if !self.damage.zeros {
-            bytes[ZEROS_START..P_PARITY_START].fill(0);
+        if kind.has_parity() && !damage.zeros {
+            bytes[kind.code().end..P_PARITY_START].fill(0);
         }
-        if !self.damage.parity {
-            write_parity(&mut bytes).expect("the bytes are those of a sector");
+        if !damage.parity {
+            write_parity_of(&mut bytes, kind);
+        }
+        if damage.rule {
+            change_rule(&mut bytes, random);
         }
         scramble(&mut bytes[HEADER_START..]);
         resized(bytes, self.length, random)
     }
 
-    fn spoil_header(&self, bytes: &mut [u8], random: &mut Random) {
+    /// Sync, address, mode and the subheader twice, damaged or not.
+    fn write_header(&self, bytes: &mut [u8], random: &mut Random) {
+        bytes[..HEADER_START].copy_from_slice(&SYNC);
+        bytes[HEADER_START..MODE_PLACE].copy_from_slice(&self.address.bcd());
+        bytes[MODE_PLACE] = self.kind.mode_byte();
+        if self.kind.has_subheader() {
+            let subheader = any_subheader(self.kind, random);
+            bytes[FIRST_COPY].copy_from_slice(&subheader);
+            bytes[SECOND_COPY].copy_from_slice(&subheader);
+        }
         if self.damage.sync {
             flip_one_of(&mut bytes[..HEADER_START], random);
         }
         if self.damage.mode {
-            bytes[MODE_PLACE] = random.pick(&[0, 2, 3, 0x81, 0xFF]);
+            self.spoil_mode(bytes, random);
         }
         if self.damage.address && random.one_in(2) {
             bytes[HEADER_START..MODE_PLACE].copy_from_slice(&self.address.next().bcd());
         } else if self.damage.address {
             flip_one_of(&mut bytes[HEADER_START..MODE_PLACE], random);
+        }
+    }
+
+    /// In mode 2 in either copy. The first copy keeps its form, and the second one may lose it.
+    fn spoil_mode(&self, bytes: &mut [u8], random: &mut Random) {
+        if !self.kind.has_subheader() {
+            bytes[MODE_PLACE] = random.pick(&ODD_MODES);
+        } else if random.one_in(3) {
+            bytes[SECOND_COPY.start + SUBMODE] ^= FORM_BIT;
+        } else if random.one_in(2) {
+            flip_one_of(&mut bytes[SECOND_COPY], random);
+        } else {
+            let place = random.pick(&[16, 17, 19]);
+            bytes[place] ^= random.between(1, 255) as u8;
+        }
+    }
+}
+
+/// Of a subheader that agrees with the kind. To mode 1 every one does.
+pub fn any_subheader(kind: Kind, random: &mut Random) -> [u8; 4] {
+    let mut subheader = [0; 4].map(|_: u8| random.below(256) as u8);
+    if !kind.agrees_with(subheader) {
+        subheader[SUBMODE] ^= FORM_BIT;
+    }
+    subheader
+}
+
+/// A bit that the code covers or has, or zeros in its place: in form 2 all but one, since four are no code.
+fn spoil_code(bytes: &mut [u8], kind: Kind, random: &mut Random) {
+    if !random.one_in(3) {
+        return flip_one_of(&mut bytes[kind.user().start..kind.code().end], random);
+    }
+    bytes[kind.code()].fill(0);
+    if kind == Kind::Form2 {
+        flip_one_of(&mut bytes[kind.code()], random);
+    }
+}
+
+/// Another mode byte or another form, and at times the other copy with it.
+fn change_rule(bytes: &mut [u8], random: &mut Random) {
+    match random.below(4) {
+        0 => bytes[MODE_PLACE] = random.pick(&[0, 1, 2, 3, 255]),
+        1 => bytes[MODE_PLACE] ^= 3,
+        2 => bytes[FIRST_COPY.start + SUBMODE] ^= FORM_BIT,
+        _ => {
+            bytes[FIRST_COPY.start + SUBMODE] ^= FORM_BIT;
+            bytes[SECOND_COPY.start + SUBMODE] ^= FORM_BIT;
         }
     }
 }
@@ -147,14 +225,28 @@ mod tests {
     #[test]
     fn each_mixture_is_judged_as_it_was_made() {
         let mut random = Random::new(1);
-        for why in (0..16).cycle().take(16 * 100) {
+        let mixtures = Kind::ALL.into_iter().flat_map(|kind| (0..16).map(move |why| (kind, why)));
+        for (kind, why) in mixtures.cycle().take(48 * 100) {
             let damage = Damage::of_why(why).with_unjudged(2, &mut random);
-            let mut bytes = Sector { damage, ..Sector::good(ADDRESS) }.make(&mut random);
+            let mut bytes = Sector { damage, kind, ..Sector::good(ADDRESS) }.make(&mut random);
             open(&mut bytes).expect("its length is right");
             let facts = judge(&bytes, ADDRESS).expect("length and address are right");
             assert_eq!((facts.why() as u32, facts.bits() as u32), (damage.why(), damage.bits()), "{damage:?}");
             assert_eq!((facts.why() as u16, facts.is_good()), (why, !damage.is_judged()));
-            assert_eq!(parity_holds(&bytes, false), Ok(!damage.parity), "{damage:?}");
+            assert_eq!(parity_holds(&bytes), Ok(kind == Kind::Form2 || !damage.parity), "{kind:?} {damage:?}");
+        }
+    }
+
+    #[test]
+    fn a_changed_rule_is_another_one_or_sets_the_mode() {
+        let mut random = Random::new(3);
+        for kind in Kind::ALL.into_iter().cycle().take(300) {
+            let damage = Damage { rule: true, ..Damage::default() };
+            let mut bytes = Sector { damage, kind, ..Sector::good(ADDRESS) }.make(&mut random);
+            open(&mut bytes).expect("its length is right");
+            let is_same = Kind::of_sector(&bytes) == kind && bytes[MODE_PLACE] == kind.mode_byte();
+            let facts = judge(&bytes, ADDRESS).expect("length and address are right");
+            assert!(!is_same || kind == Kind::Mode1 || facts.is_good(), "{kind:?} {facts:?}");
         }
     }
 

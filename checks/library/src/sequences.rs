@@ -47,9 +47,10 @@ impl Chooser {
 
     pub(crate) fn at_rest(&mut self, chip: &Chip) -> Call {
         match self.random.below(100) {
-            0..=22 => self.fill(chip),
-            23..=24 => self.keep_facts(chip),
-            25..=49 => self.serve(chip),
+            0..=21 => self.fill(chip),
+            22..=24 => self.keep_facts(chip),
+            25..=48 => self.serve(chip),
+            49 => self.bad_sectors(chip),
             50..=57 => self.packet_command(chip),
             58 => self.start_by_packet(),
             59..=63 => self.read(),
@@ -116,6 +117,20 @@ impl Chooser {
                 let opening = self.opening();
                 self.follow(&[opening]);
             }
+        }
+        off
+    }
+
+    /// A row of them, of any kinds.
+    fn bad_sectors(&mut self, chip: &Chip) -> Call {
+        let (off, on) = (write(0x0A, 0x00), write(0x0A, 0x80));
+        if chip.tcc + 3 > chip.blocks {
+            self.follow(&[write(0x9D, 0)]);
+        }
+        self.follow(&[write(0x9A, 0x20), write(0x9C, 0x60), on]);
+        for _ in 0..6 {
+            let bad = self.bad_sector(chip);
+            self.follow(&[bad, off, on]);
         }
         off
     }

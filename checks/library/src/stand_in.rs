@@ -1,7 +1,7 @@
 //! The model in the library's place: the comparison can be tried by it, whatever the archive does.
 
 use crate::call::{Answer, Call};
-use crate::expectation::{judged, parity_checked, sealed};
+use crate::expectation::{judged, parity_checked, sealed, sealed_xa};
 use crate::library::{Lent, Library};
 use crate::record::{self, Record};
 use crate::state::{refused_opening, State};
@@ -35,6 +35,10 @@ impl Library for StandIn {
 
     fn seal(&mut self, sector: &mut [u8], address: Address) -> Answer {
         sealed(sector, address)
+    }
+
+    fn seal_xa(&mut self, sector: &mut [u8], address: Address, kind: u16, subheader: &mut [u8; 4]) -> Answer {
+        sealed_xa(sector, address, kind, *subheader)
     }
 
     fn parity(&mut self, sector: &mut [u8]) -> Answer {

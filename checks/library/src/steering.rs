@@ -4,7 +4,7 @@
 use crate::call::Call;
 use crate::memory::Memory;
 use crate::sectors::{Damage, Sector, WRONG_LENGTHS};
-use ecma130::Address;
+use ecma130::{Address, Kind};
 use model::{Chip, Random, BLOCK_BYTES};
 use std::collections::VecDeque;
 
@@ -129,7 +129,7 @@ impl Chooser {
         match self.random.below(20) {
             0 => self.short_or_long_sector(chip),
             1 => self.sector_with_one_fault(chip),
-            2..=5 => self.bad_sector(chip),
+            2..=7 => self.bad_sector(chip),
             _ => self.good_sector(chip),
         }
     }
@@ -147,12 +147,14 @@ impl Chooser {
     }
 
     fn damaged(&mut self, chip: &Chip, damage: impl Fn(&mut Random) -> Damage) -> Call {
-        let sector = Sector { damage: damage(&mut self.random), ..Sector::good(chip.expected) };
+        let kind = self.random.pick(&Kind::ALL);
+        let sector = Sector { damage: damage(&mut self.random), kind, ..Sector::good(chip.expected) };
         Call::Sector { lent: ring_bytes(chip), sector }
     }
 
     fn short_or_long_sector(&mut self, chip: &Chip) -> Call {
-        let sector = Sector { length: self.random.pick(&WRONG_LENGTHS), ..Sector::good(chip.expected) };
+        let (length, kind) = (self.random.pick(&WRONG_LENGTHS), self.random.pick(&Kind::ALL));
+        let sector = Sector { length, kind, ..Sector::good(chip.expected) };
         Call::Sector { lent: ring_bytes(chip), sector }
     }
 

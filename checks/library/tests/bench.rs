@@ -1,9 +1,10 @@
 //! The bench of the library against the model's, a text in each call: every
 //! byte of the answers, of the ring's memory and of the sector buffer.
 
-use cdrom::ANSWER_ROOM;
+use cdrom::{raw, ANSWER_ROOM};
 use ecma130::SECTOR_BYTES;
-use model::{parse, random_script, sealed, Bench, Call, Random, BLOCK_BYTES};
+use model::{parse, random_script, Bench, Call, Random, BLOCK_BYTES};
+use std::ops::Range;
 
 const MEMORY_BYTES: usize = 25 * BLOCK_BYTES;
 /// Answers 1 and changes nothing.
@@ -12,6 +13,9 @@ const REFUSED: &[u8] = b"call=open ring=0";
 /// What makes an opened ring take sectors.
 const SWITCHES: &[u8] = b"call=write reg=154 value=32\ncall=write reg=156 value=96\ncall=write reg=10 value=128\n";
 const OPEN: &[u8] = b"call=open ring=25\n";
+/// A form 2 with the form bit high, and with it low.
+const FORM_2: &[u8] = b"call=kind number=3\ncall=subheader file=1 channel=2 submode=40 coding=4\n";
+const OTHER_FORM: &[u8] = b"call=kind number=3\ncall=subheader file=1 channel=2 submode=8 coding=4\n";
 const SECTOR: &[u8] = b"call=sector min=0 sec=2 frame=0 fill=7\n";
 const REST: &[u8] = b"call=look\ncall=word\ncall=status\ncall=read reg=157\n";
 
@@ -52,10 +56,9 @@ impl Lent {
             let answer = match parse(line) {
                 Some(Call::Sector { .. }) if opened && self.sector.len() != SECTOR_BYTES => bench.line(REFUSED),
                 Some(Call::Sector { address, fill }) if opened => {
-                    let (scratch, answer) = (bench.scratch(), bench.line(line));
+                    let (disc, answer) = (bench.disc(), bench.line(line));
                     if answer.contains(" answer=0 ") {
-                        let sector = sealed(address, fill).expect("an accepted sector can be sealed");
-                        self.sector = scratch.over(sector);
+                        self.sector = disc.arriving(address, fill).expect("an accepted sector can be sealed");
                     }
                     answer
                 }
@@ -162,7 +165,7 @@ fn an_empty_text_changes_nothing() {
 /// behind the answers is changed.
 #[test]
 fn room_for_some_of_the_answers() {
-    let text = [OPEN, SWITCHES, SECTOR, REST, OPEN, SWITCHES, SECTOR, &random_script(301, 20)].concat();
+    let text = [OPEN, SWITCHES, SECTOR, REST, OPEN, SWITCHES, FORM_2, SECTOR, &random_script(301, 20)].concat();
     let mut start = Lent::stale(5, &text);
     let all = start.out.clone();
     for room in 0..=all.len().min(10 * ANSWER_ROOM) {
@@ -203,7 +206,13 @@ fn a_refused_sector_line_changes_no_byte() {
     let scratched = |before: &[u8]| [before, b"call=scratch from=0 count=2352\n"].concat();
     let held = [&decoding[..], b"call=sector min=0 sec=9 frame=9 fill=8\n"].concat();
     let full = [&decoding[..], SECTOR, b"call=sector min=0 sec=2 frame=1 fill=9\n"].concat();
+    let other_form = |before: &[u8]| [before, OTHER_FORM].concat();
     let cases = [
+        (&other_form(&decoding), SECTOR, "answer=3"),
+        (&other_form(&opened), SECTOR, "answer=3"),
+        (&other_form(&held), SECTOR, "answer=3"),
+        (&other_form(&full), SECTOR, "answer=3"),
+        (&other_form(&scratched(&decoding)), SECTOR, "answer=3"),
         (&decoding, &b"call=sector min=0 sec=2 frame=0 fill=256\n"[..], "answer=3"),
         (&decoding, b"call=sector min=0 sec=60 frame=0 fill=5\n", "answer=3"),
         (&full, b"call=sector min=100 sec=2 frame=0 fill=5\n", "answer=3"),
@@ -228,17 +237,23 @@ fn a_refused_sector_line_changes_no_byte() {
 
 /// Where nothing waits for a sector, where something does, and after a sector.
 #[test]
-fn a_scratch_line_changes_no_byte() {
-    let lines: [(&[u8], &str); 6] = [
+fn a_line_of_the_disc_changes_no_byte() {
+    let lines: [(&[u8], &str); 12] = [
         (b"call=scratch from=0 count=2352\n", "answer=0"),
         (b"call=scratch from=2352 count=0\n", "answer=0"),
         (b"call=scratch from=65535 count=0\n", "answer=3"),
         (b"call=scratch from=1 count=65535\n", "answer=3"),
         (b"call=scratch from=0 count=65536\n", "answer=2"),
         (b"call=scratch from=0\n", "answer=2"),
+        (b"call=kind number=3\n", "answer=0"),
+        (b"call=kind number=257\n", "answer=3"),
+        (b"call=kind number=65536\n", "answer=2"),
+        (b"call=subheader file=255 channel=255 submode=255 coding=255\n", "answer=0"),
+        (b"call=subheader file=255 channel=255 submode=255 coding=256\n", "answer=3"),
+        (b"call=subheader file=255 channel=255 submode=255\n", "answer=2"),
     ];
     let waiting = [OPEN, SWITCHES, b"call=scratch from=9 count=9\n"].concat();
-    let stored = [OPEN, SWITCHES, SECTOR].concat();
+    let stored = [OPEN, SWITCHES, FORM_2, SECTOR].concat();
     for before in [OPEN, &waiting, &stored] {
         for (line, number) in lines {
             let text = [before, line].concat();
@@ -254,21 +269,35 @@ fn a_scratch_line_changes_no_byte() {
 /// Told from the library's own sector calls, for runs about every edge of a field and the whole sector.
 #[test]
 fn the_buffer_and_the_block_hold_the_sector_as_it_arrived() {
-    let mut sector = [vec![0; 16], vec![7; 2048], vec![0; 288]].concat();
-    cdrom::seal(&mut sector, cdrom::Address { minute: 0, second: 2, frame: 0 }).expect("a sector");
-    let header = [0..1, 0..12, 11..13, 12..15, 15..16];
-    let data_and_code = [16..2064, 2063..2065, 2064..2068, 2067..2077];
+    let header = [0..1, 0..12, 11..13, 12..15, 15..16, 16..24, 18..19, 20..24];
+    let data_and_code = [16..2064, 2063..2065, 2064..2068, 2067..2077, 2072..2076, 2347..2349];
     let parity = [2068..2352, 2076..2248, 2247..2249, 2248..2352, 2351..2352, 0..2352, 2352..2352];
     for run in header.into_iter().chain(data_and_code).chain(parity) {
-        let scratch = format!("call=scratch from={} count={}\n", run.start, run.len());
-        let text = [OPEN, SWITCHES, scratch.as_bytes(), SECTOR].concat();
-        let (end, _) = hold(&Lent::stale(14, &text), &text);
-        let mut arrived = sector.clone();
-        arrived[run.clone()].iter_mut().for_each(|byte| *byte = !*byte);
-        assert!(end.sector == arrived, "{run:?}");
-        cdrom::open(&mut arrived).expect("a sector");
-        assert!(end.memory[..SECTOR_BYTES] == arrived, "{run:?}");
+        for (kind, user, submode) in [(1, 16..2064, 40), (2, 24..2072, 8), (3, 24..2348, 40)] {
+            let mut sector = vec![0; SECTOR_BYTES];
+            sector[user].fill(7);
+            // SAFETY: the pointer and the length are those of the sector, and the subheader is four bytes.
+            let answer = unsafe { raw::cdrom_seal_xa(sector.as_mut_ptr(), 2352, 0, 2, 0, kind, &[1, 2, submode, 4]) };
+            assert_eq!(answer, 0);
+            hold_arrival(run.clone(), kind, submode, sector);
+        }
     }
+}
+
+/// The sector as it was made, and the run of its bytes that is inverted.
+fn hold_arrival(run: Range<usize>, kind: u16, submode: u8, mut sector: Vec<u8>) {
+    let disc = format!(
+        "call=subheader file=1 channel=2 submode={submode} coding=4\ncall=kind number={kind}\n\
+         call=scratch from={} count={}\n",
+        run.start,
+        run.len()
+    );
+    let text = [OPEN, SWITCHES, disc.as_bytes(), SECTOR].concat();
+    let (end, _) = hold(&Lent::stale(14, &text), &text);
+    sector[run.clone()].iter_mut().for_each(|byte| *byte = !*byte);
+    assert!(end.sector == sector, "{run:?} of kind {kind}");
+    cdrom::open(&mut sector).expect("a sector");
+    assert!(end.memory[..SECTOR_BYTES] == sector, "{run:?} of kind {kind}");
 }
 
 #[test]

@@ -129,11 +129,12 @@ fn a_byte_of_the_block_that_is_filled() {
     }
 }
 
-/// Elsewhere a byte is found by the next look at the whole memory, at the latest at the run's end.
+/// Elsewhere a byte is found by the next look at the whole memory, at the latest at the run's end; unless a sector is
+/// written over it before, as none is here.
 #[test]
 fn any_byte_of_the_ring() {
     for place in 0..40 {
-        let mut library = Faulty::new(1000, 1, |made: Made| {
+        let mut library = Faulty::new(1100, 1, |made: Made| {
             let length = made.lent.ring.len();
             made.lent.ring.get_mut(length * place / 40).map(|byte| *byte ^= 0x80).is_some()
         });
@@ -152,6 +153,8 @@ struct Partly {
     touched_by_judge: Option<usize>,
     touched_by_parity: Option<usize>,
     touched_by_seal: Option<usize>,
+    touched_by_seal_xa: Option<usize>,
+    touched_subheader: Option<usize>,
 }
 
 fn as_it_is(number: u32) -> u32 {
@@ -166,6 +169,8 @@ const RIGHT: Partly = Partly {
     touched_by_judge: None,
     touched_by_parity: None,
     touched_by_seal: None,
+    touched_by_seal_xa: None,
+    touched_subheader: None,
 };
 
 fn touch(sector: &mut [u8], place: Option<usize>) {
@@ -203,6 +208,13 @@ impl Library for Partly {
     fn seal(&mut self, sector: &mut [u8], address: Address) -> Answer {
         let answer = StandIn.seal(sector, address);
         touch(sector, self.touched_by_seal);
+        answer
+    }
+
+    fn seal_xa(&mut self, sector: &mut [u8], address: Address, kind: u16, subheader: &mut [u8; 4]) -> Answer {
+        let answer = StandIn.seal_xa(sector, address, kind, subheader);
+        touch(sector, self.touched_by_seal_xa);
+        touch(subheader, self.touched_subheader);
         answer
     }
 
@@ -268,6 +280,20 @@ fn a_sector_that_is_only_read_is_changed() {
 fn another_byte_of_a_sealed_sector() {
     for place in [0, 11, 12, 15, 16, 2063, 2064, 2067, 2068, 2075, 2076, 2247, 2248, 2351] {
         is_told_as(&format!("the sealed sector, byte {place}"), Partly { touched_by_seal: Some(place), ..RIGHT });
+    }
+}
+
+/// Of whichever kind comes first, and of refused ones too.
+#[test]
+fn another_byte_of_a_sector_sealed_by_its_kind() {
+    for place in [0, 11, 12, 15, 16, 18, 20, 23, 24, 2063, 2064, 2071, 2072, 2075, 2076, 2248, 2347, 2348, 2351] {
+        let mut library = Partly { touched_by_seal_xa: Some(place), ..RIGHT };
+        let what = run(&mut library, SEED, CALLS).expect_err("something is wrong").part.what;
+        let told = what.starts_with("the sealed sector of kind ") && what.ends_with(&format!(", byte {place}"));
+        assert!(told, "{what}");
+    }
+    for place in 0..4 {
+        is_told_as(&format!("the lent subheader, byte {place}"), Partly { touched_subheader: Some(place), ..RIGHT });
     }
 }
 

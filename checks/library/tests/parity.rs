@@ -1,4 +1,5 @@
-//! The library's parity, written and checked, against the independent code.
+//! The library's parity, written and checked, against the independent code: that of mode 1, and of mode bytes that have
+//! its rule. `kinds.rs` has the other kinds.
 
 mod common;
 
@@ -9,7 +10,17 @@ use ecma130::{EDC_START, P_PARITY_START, Q_PARITY_START, SECTOR_BYTES, USER_STAR
 use model::Random;
 
 const HEADER_START: usize = 12;
+const MODE_PLACE: usize = 15;
 const ADDRESS: Address = Address::new(12, 34, 56);
+
+/// Anything but 0, and in the mode byte nothing that makes it 2.
+fn damage(place: usize, random: &mut Random) -> u8 {
+    if place == MODE_PLACE {
+        0x80
+    } else {
+        random.between(1, 255) as u8
+    }
+}
 
 fn sealed_and_opened(random: &mut Random) -> Vec<u8> {
     let mut sector = random.bytes(SECTOR_BYTES);
@@ -75,7 +86,7 @@ fn every_p_word_fails_alone() {
     let sector = sealed_and_opened(&mut random);
     for place in HEADER_START..Q_PARITY_START {
         let mut damaged = sector.clone();
-        damaged[place] ^= random.between(1, 255) as u8;
+        damaged[place] ^= damage(place, &mut random);
         write_q_parity(&mut damaged).unwrap();
         assert_eq!(parity(&damaged), Ok(false), "byte {place}");
     }
@@ -99,6 +110,7 @@ fn any_bytes() {
     let mut random = Random::new(6);
     for _ in 0..500 {
         let mut sector = random.bytes(SECTOR_BYTES);
+        sector[MODE_PLACE] &= !2;
         assert_eq!(parity(&sector), Ok(false));
         write_parity(&mut sector).unwrap();
         assert_eq!(parity(&sector), Ok(true));
@@ -127,12 +139,12 @@ fn parity_is_not_judged_and_what_is_judged_is_not_parity() {
     open(&mut sector).unwrap();
     for place in P_PARITY_START..SECTOR_BYTES {
         let mut damaged = sector.clone();
-        damaged[place] ^= random.between(1, 255) as u8;
+        damaged[place] ^= damage(place, &mut random);
         assert_eq!((judge(&damaged, ADDRESS), parity(&damaged)), (Ok(GOOD), Ok(false)), "byte {place}");
     }
     for place in 0..P_PARITY_START {
         let mut damaged = sector.clone();
-        damaged[place] ^= random.between(1, 255) as u8;
+        damaged[place] ^= damage(place, &mut random);
         write_parity(&mut damaged).unwrap();
         assert_eq!((judge(&damaged, ADDRESS) == Ok(GOOD), parity(&damaged)), (place >= 2068, Ok(true)), "byte {place}");
     }

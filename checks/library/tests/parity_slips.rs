@@ -1,13 +1,13 @@
-//! Libraries that are wrong in how they write or check parity. Each must be noticed.
+//! Libraries that are wrong in how they write or check the parity of mode 1. Each must be noticed.
 
-use ecma130::{edc_by_table, open, parity_holds, scramble, write_parity, write_q_parity};
-use ecma130::{Address, EDC_START, P_PARITY_START, Q_PARITY_START, SECTOR_BYTES};
+use ecma130::{edc_by_table, open, scramble, words_hold, write_parity, write_q_parity};
+use ecma130::{Address, Kind, EDC_START, P_PARITY_START, Q_PARITY_START, SECTOR_BYTES};
 use library::record::Record;
 use library::{run, Answer, Call, Lent, Library, StandIn};
 
 /// What is made of the buffer as it was and the sector that was sealed in it and opened.
 type Reseal = fn(stale: &[u8], sector: &mut [u8]);
-/// Of a sector of the right length.
+/// Of a sector of the right length that is read by the rule of mode 1.
 type Check = fn(&[u8]) -> bool;
 
 struct Slipping {
@@ -43,9 +43,15 @@ impl Library for Slipping {
         answer
     }
 
+    fn seal_xa(&mut self, sector: &mut [u8], address: Address, kind: u16, subheader: &mut [u8; 4]) -> Answer {
+        StandIn.seal_xa(sector, address, kind, subheader)
+    }
+
     fn parity(&mut self, sector: &mut [u8]) -> Answer {
         match self.check {
-            Some(check) if sector.len() == SECTOR_BYTES => Answer::Reply { number: 0, result: check(sector) as u32 },
+            Some(check) if sector.len() == SECTOR_BYTES && Kind::of_sector(sector) == Kind::Mode1 => {
+                Answer::Reply { number: 0, result: check(sector) as u32 }
+            }
             _ => StandIn.parity(sector),
         }
     }
@@ -77,7 +83,8 @@ fn with_q_parity(sector: &[u8]) -> Vec<u8> {
 }
 
 fn holds(sector: &[u8], header_as_zero: bool) -> bool {
-    parity_holds(sector, header_as_zero).expect("a sector's length")
+    let rule = if header_as_zero { Kind::Form1 } else { Kind::Mode1 };
+    words_hold(sector, rule).expect("a sector's length")
 }
 
 #[test]
@@ -166,7 +173,7 @@ fn the_header_is_taken_as_zero() {
 
 #[test]
 fn the_mode_byte_decides_on_the_header() {
-    checking_is_noticed(|sector| holds(sector, sector[15] == 2));
+    checking_is_noticed(|sector| holds(sector, sector[15] != 1));
 }
 
 #[test]

@@ -3,7 +3,7 @@
 //! one are counted, the return address and arguments on the stack among them.
 
 use cdrom::registers::{ACCTL, ACMEN, ADCEN, ADTT, ASCTRL, ASTRG, BICCTL, BLIMEN, CTRL0, DECEN, TCC, TCINCEN};
-use cdrom::{judge, open, raw, seal, Address, Chip, Facts, Record, ANSWER_ROOM};
+use cdrom::{judge, open, raw, seal, seal_xa, Address, Chip, Facts, Kind, Record, Subheader, ANSWER_ROOM};
 use ecma130::SECTOR_BYTES;
 use model::{random_script, BLOCK_BYTES};
 use std::arch::asm;
@@ -13,6 +13,13 @@ const STACK_BYTES: usize = 1 << 16;
 const PAINTS: [u8; 2] = [0xA5, 0x5A];
 /// A random script of so many lines makes every call of the bench.
 const SCRIPT_LINES: usize = 5000;
+
+/// Each kind with a subheader that it takes.
+const SUBHEADERS: [(Kind, Subheader); 3] = [
+    (Kind::Mode1, Subheader::from_bytes([0; 4])),
+    (Kind::Form1, Subheader::from_bytes([0, 0, 0x08, 0])),
+    (Kind::Form2, Subheader::from_bytes([0, 0, 0x20, 0])),
+];
 
 #[repr(align(64))]
 struct Stack([u8; STACK_BYTES]);
@@ -37,6 +44,7 @@ fn by_call() -> Vec<(&'static str, usize)> {
 fn sector_calls() -> Vec<(&'static str, usize)> {
     vec![
         ("cdrom_seal", of_sector_call(raw::cdrom_seal as Function)),
+        ("cdrom_seal_xa", of_seal_xa()),
         ("cdrom_open", of_sector_call(raw::cdrom_open as Function)),
         ("cdrom_judge", of_sector_call(raw::cdrom_judge as Function)),
         ("cdrom_parity", of_sector_call(raw::cdrom_parity as Function)),
@@ -114,13 +122,27 @@ fn of_chip_call(function: Function, record: Record, rest: [u64; 5]) -> usize {
     touched[0].max(touched[1])
 }
 
+/// The most over the three kinds.
 fn of_sector_call(function: Function) -> usize {
-    let touched = PAINTS.map(|paint| {
-        let mut sector = good_sector();
+    let each = SUBHEADERS.iter().flat_map(|(kind, subheader)| PAINTS.map(|paint| (kind, subheader, paint)));
+    let touched = each.map(|(kind, subheader, paint)| {
+        let mut sector = good_sector(*kind, *subheader);
         // SAFETY: each call takes a sector, and some an address after it; the others do not read those registers.
         unsafe { touched(paint, function, [sector.as_mut_ptr() as u64, sector.len() as u64, 0, 2, 0, 0], &[]) }
     });
-    touched[0].max(touched[1])
+    touched.max().expect("three kinds")
+}
+
+/// The same; the subheader comes behind the six numbers in registers.
+fn of_seal_xa() -> usize {
+    let each = SUBHEADERS.iter().flat_map(|(kind, subheader)| PAINTS.map(|paint| (kind, subheader, paint)));
+    let touched = each.map(|(kind, subheader, paint)| {
+        let (mut sector, bytes) = (good_sector(*kind, *subheader), subheader.bytes());
+        let first = [sector.as_mut_ptr() as u64, sector.len() as u64, 0, 2, 0, kind.number().into()];
+        // SAFETY: the call takes a sector, an address, a kind and a subheader; the number behind that is there for the alignment.
+        unsafe { touched(paint, raw::cdrom_seal_xa as Function, first, &[bytes.as_ptr() as u64, 0]) }
+    });
+    touched.max().expect("three kinds")
 }
 
 fn of_bench() -> usize {
@@ -139,10 +161,10 @@ fn of_bench() -> usize {
 }
 
 /// Opened, at 00:02:00: no call refuses it.
-fn good_sector() -> Vec<u8> {
+fn good_sector(kind: Kind, subheader: Subheader) -> Vec<u8> {
     let mut sector = vec![0x11; SECTOR_BYTES];
     let address = Address { minute: 0, second: 2, frame: 0 };
-    seal(&mut sector, address).unwrap();
+    seal_xa(&mut sector, address, kind, subheader).unwrap();
     open(&mut sector).unwrap();
     assert!(judge(&sector, address).is_ok_and(Facts::is_good));
     sector
@@ -196,7 +218,7 @@ mod tests {
             let limit = match name {
                 "cdrom_bench" => 5 * 1024,
                 "cdrom_chip_sector" => 4 * 1024,
-                "cdrom_seal" | "cdrom_open" => 3 * 1024,
+                "cdrom_seal" | "cdrom_seal_xa" | "cdrom_open" => 3 * 1024,
                 "cdrom_judge" | "cdrom_parity" | "cdrom_edc" => 1024,
                 _ => 2 * 1024,
             };
@@ -208,6 +230,6 @@ mod tests {
     fn the_script_makes_every_call() {
         let text = random_script(1, SCRIPT_LINES);
         let calls = text.split(|&byte| byte == b'\n').filter_map(parse);
-        assert_eq!(calls.map(|call| call.name()).collect::<BTreeSet<_>>().len(), 16);
+        assert_eq!(calls.map(|call| call.name()).collect::<BTreeSet<_>>().len(), 18);
     }
 }

@@ -2,8 +2,7 @@
 
 use crate::call::{parse, Call};
 use crate::chip::{Answer, Chip, Refusal, BLOCK_BYTES};
-use crate::scratch::Scratch;
-use ecma130::{seal, Address, EDC_START, SECTOR_BYTES, USER_START};
+use crate::disc::Disc;
 
 const MAX_RING: u16 = 25;
 const MALFORMED: u16 = 2;
@@ -12,8 +11,7 @@ pub struct Bench {
     lines: u64,
     chip: Option<Chip>,
     memory: Vec<u8>,
-    /// What the next sector will have suffered. It is the disc's, so that no call to the chip touches it.
-    scratch: Scratch,
+    disc: Disc,
 }
 
 impl Default for Bench {
@@ -30,7 +28,7 @@ impl Bench {
     /// A bench over memory of any bytes; a ring that it is too short for can be
     /// opened, but neither filled nor served.
     pub fn over(memory: Vec<u8>) -> Bench {
-        Bench { lines: 0, chip: None, memory, scratch: Scratch::NONE }
+        Bench { lines: 0, chip: None, memory, disc: Disc::NEW }
     }
 
     /// The memory as the last line left it. The open ring is its start.
@@ -43,9 +41,9 @@ impl Bench {
         self.chip.as_ref()
     }
 
-    /// The scratch that waits for its sector.
-    pub fn scratch(&self) -> Scratch {
-        self.scratch
+    /// What the next sector line carries.
+    pub fn disc(&self) -> Disc {
+        self.disc
     }
 
     /// Takes a line without its newline and gives the printed one.
@@ -73,26 +71,27 @@ impl Bench {
         let end = self.memory.len().min(chip.blocks * BLOCK_BYTES);
         let ring = &mut self.memory[..end];
         match call {
-            Call::Scratch { from, count } => {
-                self.scratch = Scratch::new(from, count)?;
-                Ok(0)
+            Call::Scratch { from, count } => self.disc.set_scratch(from, count).map(|()| 0),
+            Call::Kind { number } => self.disc.set_kind(number).map(|()| 0),
+            Call::Subheader { file, channel, submode, coding } => {
+                self.disc.set_subheader([file, channel, submode, coding]).map(|()| 0)
             }
             Call::Sector { address, fill } => {
-                let result = chip.sector(ring, &self.scratch.over(sealed(address, fill)?))?;
-                self.scratch = Scratch::NONE;
+                let result = chip.sector(ring, &self.disc.arriving(address, fill)?)?;
+                self.disc.has_arrived();
                 Ok(result)
             }
             other => run_on(chip, ring, other),
         }
     }
 
-    /// A refused opening keeps the chip there was, and the scratch.
+    /// A refused opening keeps the chip there was, and what the disc carries.
     fn open(&mut self, ring: u16) -> Answer {
         if ring > MAX_RING {
             return Err(Refusal::Unsound);
         }
         self.chip = Some(Chip::open(ring)?);
-        self.scratch = Scratch::NONE;
+        self.disc = Disc::NEW;
         Ok(0)
     }
 }
@@ -113,15 +112,7 @@ pub fn run_on(chip: &mut Chip, ring: &mut [u8], call: Call) -> Answer {
         Call::Send { word } => chip.packet_word(word),
         Call::Status => chip.host_status(),
         Call::Srst => chip.srst(),
-        Call::Open { .. } | Call::Sector { .. } | Call::Scratch { .. } => unreachable!("taken by the callers"),
+        Call::Open { .. } | Call::Sector { .. } => unreachable!("taken by the callers"),
+        Call::Scratch { .. } | Call::Kind { .. } | Call::Subheader { .. } => unreachable!("these are the disc's"),
     }
-}
-
-/// A sector with every user byte equal to `fill`.
-pub fn sealed(address: Address, fill: u16) -> Result<Vec<u8>, Refusal> {
-    let fill = u8::try_from(fill).map_err(|_| Refusal::OutOfRange)?;
-    let mut sector = vec![0; SECTOR_BYTES];
-    sector[USER_START..EDC_START].fill(fill);
-    seal(&mut sector, address).map_err(|_| Refusal::OutOfRange)?;
-    Ok(sector)
 }

@@ -22,10 +22,12 @@ pub enum Call {
     Srst,
     Sector { address: Address, fill: u16 },
     Scratch { from: u16, count: u16 },
+    Kind { number: u16 },
+    Subheader { file: u16, channel: u16, submode: u16, coding: u16 },
 }
 
 /// Every call's name with its keys, in the only order allowed.
-const FORMS: [(&str, &[&str]); 16] = [
+const FORMS: [(&str, &[&str]); 18] = [
     ("open", &["ring"]),
     ("read", &["reg"]),
     ("write", &["reg", "value"]),
@@ -42,6 +44,8 @@ const FORMS: [(&str, &[&str]); 16] = [
     ("srst", &[]),
     ("sector", &["min", "sec", "frame", "fill"]),
     ("scratch", &["from", "count"]),
+    ("kind", &["number"]),
+    ("subheader", &["file", "channel", "submode", "coding"]),
 ];
 
 impl Call {
@@ -67,6 +71,8 @@ impl Call {
             Call::Srst => ("srst", vec![]),
             Call::Sector { address: a, fill } => ("sector", vec![a.minute, a.second, a.frame, fill]),
             Call::Scratch { from, count } => ("scratch", vec![from, count]),
+            Call::Kind { number } => ("kind", vec![number]),
+            Call::Subheader { file, channel, submode, coding } => ("subheader", vec![file, channel, submode, coding]),
         }
     }
 
@@ -126,6 +132,8 @@ fn build(name: &str, n: &[u16]) -> Call {
         "srst" => Call::Srst,
         "sector" => Call::Sector { address: Address::new(n[0], n[1], n[2]), fill: n[3] },
         "scratch" => Call::Scratch { from: n[0], count: n[1] },
+        "kind" => Call::Kind { number: n[0] },
+        "subheader" => Call::Subheader { file: n[0], channel: n[1], submode: n[2], coding: n[3] },
         _ => unreachable!("a name without keys was refused before"),
     }
 }
@@ -154,6 +162,8 @@ mod tests {
             Call::Srst,
             Call::Sector { address, fill: 65 },
             Call::Scratch { from: 2352, count: 65535 },
+            Call::Kind { number: 257 },
+            Call::Subheader { file: 1, channel: 2, submode: 65535, coding: 4 },
         ];
         assert_eq!(calls.len(), FORMS.len());
         for call in calls {
@@ -161,9 +171,13 @@ mod tests {
         }
     }
 
+    fn is_malformed(line: &[u8]) {
+        assert_eq!(parse(line), None, "{}", String::from_utf8_lossy(line));
+    }
+
     #[test]
     fn malformed_lines() {
-        let lines: [&[u8]; 30] = [
+        let lines: [&[u8]; 24] = [
             b"",
             b" ",
             b"call",
@@ -188,16 +202,32 @@ mod tests {
             b"call=write reg=1 reg=2",
             b"call=reset ",
             b"call=open ring=\xFF",
+        ];
+        lines.into_iter().for_each(is_malformed);
+    }
+
+    #[test]
+    fn malformed_lines_of_the_disc() {
+        let lines: [&[u8]; 17] = [
             b"call=scratch",
             b"call=scratch from=0",
             b"call=scratch count=1 from=0",
             b"call=scratch from=0 count=65536",
             b"call=scratch from=0 count=1 count=1",
             b"call=scratches from=0 count=1",
+            b"call=kind",
+            b"call=kind number=",
+            b"call=kind number=65536",
+            b"call=kind kind=1",
+            b"call=kind number=1 number=1",
+            b"call=subheader",
+            b"call=subheader file=0 channel=0 submode=0",
+            b"call=subheader file=0 submode=0 channel=0 coding=0",
+            b"call=subheader file=0 channel=0 submode=0 coding=65536",
+            b"call=subheader file=0 channel=0 submode=0 coding=0 coding=0",
+            b"call=subheader 0 0 0 0",
         ];
-        for line in lines {
-            assert_eq!(parse(line), None, "{}", String::from_utf8_lossy(line));
-        }
+        lines.into_iter().for_each(is_malformed);
     }
 
     #[test]

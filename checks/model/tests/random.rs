@@ -1,7 +1,7 @@
 //! Random calls on chips, with what must hold after each of them.
 
-use ecma130::{edc_bitwise, scramble, EDC_START, SECTOR_BYTES};
-use model::{run_on, sealed, Answer, Book, Call, Chip, Random, Refusal, Scratch, Writer, BLOCK_BYTES};
+use ecma130::{edc_bitwise, scramble, Kind, SECTOR_BYTES};
+use model::{run_on, Answer, Book, Call, Chip, Disc, Random, Refusal, Writer, BLOCK_BYTES};
 use std::collections::BTreeMap;
 
 struct Machine {
@@ -69,88 +69,100 @@ fn assert_invariants(chip: &Chip) {
     }
 }
 
-/// The disc: its scratches, and a sector now and then that no scratch makes.
-struct Disc {
+/// The disc, and a sector now and then that no line makes.
+struct Reader {
     random: Random,
-    scratch: Scratch,
+    disc: Disc,
 }
 
-impl Disc {
-    fn new(seed: u64) -> Disc {
-        Disc { random: Random::new(seed), scratch: Scratch::NONE }
+impl Reader {
+    fn new(seed: u64) -> Reader {
+        Reader { random: Random::new(seed), disc: Disc::NEW }
     }
 
     /// The call to a chip and the sector that it is lent. Nothing where the line is not one to a chip, or is refused before.
     fn call(&mut self, call: Call) -> Option<(Call, Vec<u8>)> {
-        match call {
-            Call::Scratch { from, count } => {
-                self.scratch = Scratch::new(from, count).unwrap_or(self.scratch);
-                None
+        // A refused line changes nothing of the disc.
+        let _ = match call {
+            Call::Scratch { from, count } => self.disc.set_scratch(from, count),
+            Call::Kind { number } => self.disc.set_kind(number),
+            Call::Subheader { file, channel, submode, coding } => {
+                self.disc.set_subheader([file, channel, submode, coding])
             }
-            Call::Sector { address, fill } => Some((call, self.arriving(sealed(address, fill).ok()?))),
-            _ => Some((call, Vec::new())),
-        }
+            Call::Sector { address, fill } => {
+                let sector = self.disc.sealed(address, fill).ok()?;
+                return Some((call, self.arriving(sector)));
+            }
+            _ => return Some((call, Vec::new())),
+        };
+        None
     }
 
     fn arriving(&mut self, sector: Vec<u8>) -> Vec<u8> {
         match self.random.below(10) {
             0 => self.damaged(sector),
             1 => self.crafted(sector),
-            _ => self.scratch.over(sector),
+            _ => self.disc.scratch.over(sector),
         }
     }
 
-    /// In a bit that counts.
+    /// In a bit that counts in one kind or another.
     fn damaged(&mut self, mut sector: Vec<u8>) -> Vec<u8> {
-        let place = self.random.pick(&[0, 11, 12, 14, 15, 16, 2063, 2064, 2067]);
+        let place =
+            self.random.pick(&[0, 11, 12, 14, 15, 16, 18, 22, 23, 24, 2063, 2064, 2067, 2071, 2075, 2347, 2351]);
         sector[place] ^= 1 << self.random.below(8);
         sector
     }
 
-    /// Any of sync, mode and address spoiled under a code that fits, and the code itself: all sixteen can come.
+    /// Any of sync, mode and address spoiled under a code that fits, and the code itself: all sixteen can come
+    /// in every kind. Of mode 2 the mode is spoiled by another second copy.
     fn crafted(&mut self, mut sector: Vec<u8>) -> Vec<u8> {
         scramble(&mut sector[12..]);
-        let spoiled = self.random.below(16);
+        let (kind, spoiled) = (self.disc.kind, self.random.below(16));
+        let mode_place = if kind.has_subheader() { 22 } else { 15 };
         sector[5] ^= (spoiled & 1) as u8;
-        sector[15] ^= (spoiled >> 1 & 1) as u8;
+        sector[mode_place] ^= (spoiled & 2) as u8;
         sector[13] ^= (spoiled >> 2 & 1) as u8;
-        let code = edc_bitwise(&sector[..EDC_START]) ^ (spoiled >> 3 & 1) as u32;
-        sector[EDC_START..EDC_START + 4].copy_from_slice(&code.to_le_bytes());
+        let code = edc_bitwise(&sector[kind.covered()]) ^ (spoiled >> 3 & 1) as u32;
+        sector[kind.code()].copy_from_slice(&code.to_le_bytes());
         scramble(&mut sector[12..]);
         sector
     }
 
     fn has_arrived(&mut self, call: Call, answer: Answer) {
         if matches!(call, Call::Sector { .. }) && answer.is_ok() {
-            self.scratch = Scratch::NONE;
+            self.disc.has_arrived();
         }
     }
 }
 
 #[test]
 fn invariants_and_the_book_hold_after_every_call() {
-    let (mut disc, mut writer) = (Disc::new(1), Writer::new(2));
+    let (mut reader, mut writer) = (Reader::new(1), Writer::new(2));
     let mut machine = Machine::open(3);
     let mut stored = BTreeMap::new();
     for _ in 0..200_000 {
-        let call = writer.next_call(Some(&machine.chip));
+        let call = writer.next_call(Some(&machine.chip), &reader.disc);
         if let Call::Open { ring } = call {
             if let Ok(chip) = Chip::open(ring) {
                 machine = Machine::open(chip.blocks as u16);
-                disc.scratch = Scratch::NONE;
+                reader.disc = Disc::NEW;
             }
             continue;
         }
-        let Some((call, sector)) = disc.call(call) else {
+        let Some((call, sector)) = reader.call(call) else {
             continue;
         };
         let answer = machine.run(call, &sector);
-        disc.has_arrived(call, answer);
+        reader.has_arrived(call, answer);
         if matches!(call, Call::Sector { .. }) && answer.is_ok() {
-            *stored.entry(machine.chip.facts.why()).or_insert(0) += 1;
+            *stored.entry((reader.disc.kind, machine.chip.facts.why())).or_insert(0) += 1;
         }
     }
-    assert!((0..16).all(|why| stored.get(&why).is_some_and(|&count| count > 20)), "by why: {stored:?}");
+    for kind in Kind::ALL {
+        let enough = (0..16).all(|why| stored.get(&(kind, why)).is_some_and(|&count| count > 5));
+        assert!(enough, "by kind and why: {stored:?}");
+    }
 }
 
 /// True where demand 3 stops comparing: the smaller ring lacks room, or
@@ -166,14 +178,15 @@ fn comparing_ends(call: Call, answer: Answer, smaller: &Chip) -> bool {
 
 #[test]
 fn two_rings_give_the_same_answers() {
-    let (mut random, mut disc, mut writer) = (Random::new(3), Disc::new(5), Writer::new(4));
+    let (mut random, mut reader, mut writer) = (Random::new(3), Reader::new(5), Writer::new(4));
     let (mut compared, mut words, mut bad) = (0, 0, 0);
     for _ in 0..2_000 {
         let small = random.between(3, 24);
         let mut smaller = Machine::open(small);
         let mut larger = Machine::open(random.between(small, 25));
         for _ in 0..400 {
-            let Some((call, sector)) = disc.call(writer.next_call(Some(&smaller.chip))) else {
+            let next = writer.next_call(Some(&smaller.chip), &reader.disc);
+            let Some((call, sector)) = reader.call(next) else {
                 continue;
             };
             if matches!(call, Call::Open { .. }) {
@@ -184,7 +197,7 @@ fn two_rings_give_the_same_answers() {
                 break;
             }
             let other = larger.run(call, &sector);
-            disc.has_arrived(call, answer);
+            reader.has_arrived(call, answer);
             let block_number = matches!(call, Call::Read { reg: 0x24 | 0x3A });
             assert!(block_number || answer == other, "{call:?}: {answer:?} and {other:?}");
             assert!(smaller.chip.look(&smaller.ring) == larger.chip.look(&larger.ring));

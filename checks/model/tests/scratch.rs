@@ -1,7 +1,7 @@
 //! Scratches on the bench: how long they wait, what they make of a sector, and which values of `why` can come.
 
-use ecma130::{edc_bitwise, open, Address, SECTOR_BYTES};
-use model::{sealed, Bench, BLOCK_BYTES};
+use ecma130::{edc_bitwise, open, Address, Kind, FIRST_COPY, SECOND_COPY, SECTOR_BYTES};
+use model::{sealed, Bench, BLOCK_BYTES, CHOSEN, CHOSEN_AT_FIRST_ADDRESS};
 use std::collections::BTreeSet;
 use std::ops::Range;
 
@@ -39,8 +39,15 @@ const USER_SCRATCH: &str = "call=scratch from=16 count=5";
 const MODE_SCRATCH: &str = "call=scratch from=15 count=1";
 const PARITY_SCRATCH: &str = "call=scratch from=2068 count=284";
 
-/// Where a field begins: sync, address, mode, user bytes, EDC, zeros, parity; and the end.
-const EDGES: [usize; 8] = [0, 12, 15, 16, 2064, 2068, 2076, 2352];
+/// Where a field of a kind begins: sync, address, mode, the subheader's copies, user bytes, EDC, zeros, parity; and the end.
+const EDGES: [usize; 14] = [0, 12, 15, 16, 18, 19, 20, 23, 24, 2064, 2072, 2076, 2348, 2352];
+
+/// What makes sectors of each kind. None is one whose code would fit by another rule.
+const KINDS: [(Kind, &str, &str); 3] = [
+    (Kind::Mode1, "call=kind number=1", "call=subheader file=1 channel=2 submode=3 coding=4"),
+    (Kind::Form1, "call=kind number=2", "call=subheader file=1 channel=2 submode=9 coding=4"),
+    (Kind::Form2, "call=kind number=3", "call=subheader file=1 channel=2 submode=100 coding=4"),
+];
 
 /// Calls that are no opening and take no sector on a chip that decodes and is held, or has a scratch waiting.
 const OTHER_CALLS: [&[&str]; 11] = [
@@ -169,15 +176,30 @@ fn the_block_holds_what_arrived() {
     }
 }
 
+fn touches(inverted: &Range<usize>, field: Range<usize>) -> bool {
+    inverted.start.max(field.start) < inverted.end.min(field.end)
+}
+
+/// Whether mode and code must fail. What is read by another rule than it was sealed by has no code that fits.
+fn mode_and_code(kind: Kind, inverted: &Range<usize>) -> (bool, bool) {
+    let other_mode = touches(inverted, 15..16);
+    if kind == Kind::Mode1 {
+        return (other_mode, touches(inverted, 0..2068));
+    }
+    let other_copy = FIRST_COPY.zip(SECOND_COPY).any(|(one, two)| inverted.contains(&one) != inverted.contains(&two));
+    let other_form = inverted.contains(&18);
+    let code = touches(inverted, kind.covered().start..kind.code().end);
+    (other_mode || other_copy, other_mode || other_form || code)
+}
+
 /// What must fail, told from the fields that a run touches. An empty run touches none.
-fn why_of(inverted: &Range<usize>, sector: Address, expected: Address) -> u16 {
-    let touches = |field: Range<usize>| inverted.start.max(field.start) < inverted.end.min(field.end);
+fn why_of(kind: Kind, inverted: &Range<usize>, sector: Address, expected: Address) -> u16 {
     let mut header = sector.bcd();
     for (place, byte) in header.iter_mut().enumerate() {
         *byte ^= 0xFF * inverted.contains(&(12 + place)) as u8;
     }
-    let (sync, mode, edc) = (touches(0..12), touches(15..16), touches(0..2068));
-    8 * sync as u16 + 4 * mode as u16 + 2 * edc as u16 + (header != expected.bcd()) as u16
+    let (mode, edc) = mode_and_code(kind, inverted);
+    8 * touches(inverted, 0..12) as u16 + 4 * mode as u16 + 2 * edc as u16 + (header != expected.bcd()) as u16
 }
 
 /// The sector that is due, one that is not, and one whose inverted minute is the expected one.
@@ -202,13 +224,17 @@ fn a_run_damages_the_fields_that_it_touches() {
     }
 }
 
+/// In every kind at every address where the run begins with the header, and else at one address.
 fn hold_run(bench: &mut Bench, inverted: Range<usize>) {
-    for (sector, expected) in ADDRESSES {
+    let addresses = if inverted.start < 24 { &ADDRESSES[..] } else { &ADDRESSES[inverted.start % 3..][..1] };
+    for ((kind, kind_line, subheader), &(sector, expected)) in
+        KINDS.into_iter().flat_map(|kind| addresses.iter().map(move |address| (kind, address)))
+    {
         let scratch = format!("call=scratch from={} count={}", inverted.start, inverted.len());
-        why_after(bench, &[OPEN, &line_of("address", expected)]);
+        why_after(bench, &[OPEN, kind_line, subheader, &line_of("address", expected)]);
         why_after(bench, &DECODING);
         let found = why_after(bench, &[&scratch, &format!("{} fill=7", line_of("sector", sector))]);
-        assert_eq!(found, why_of(&inverted, sector, expected), "{inverted:?} of {sector:?}");
+        assert_eq!(found, why_of(kind, &inverted, sector, expected), "{inverted:?} of {sector:?}, {kind:?}");
     }
 }
 
@@ -216,7 +242,7 @@ fn hold_run(bench: &mut Bench, inverted: Range<usize>) {
 /// starts at 0, and behind it zeros change nothing of whether it is 0. So each length is enough.
 #[test]
 fn no_run_is_a_multiple_of_the_generator() {
-    for length in 1..=2068 {
+    for length in 1..=SECTOR_BYTES {
         assert_ne!(edc_bitwise(&vec![0xFF; length]), 0, "{length} bytes");
     }
 }
@@ -233,11 +259,20 @@ fn inverted_numbers_of_an_address() {
     assert!(minutes.iter().all(|&minute| inverted(minute).is_some_and(|other| minutes.contains(&other))));
 }
 
-/// All runs: the other seven of the sixteen values do not come on the bench.
-#[test]
-fn nine_values_of_why_can_come() {
+/// By all runs, of sectors that were not chosen.
+fn values_of(kind: Kind) -> Vec<u16> {
     let starts = 0..=SECTOR_BYTES;
     let runs = starts.flat_map(|from| (from..=SECTOR_BYTES).map(move |end| from..end));
-    let all = runs.flat_map(|inverted| ADDRESSES.map(|(sector, expected)| why_of(&inverted, sector, expected)));
-    assert_eq!(all.collect::<BTreeSet<_>>().into_iter().collect::<Vec<_>>(), [0, 1, 2, 3, 6, 7, 10, 11, 15]);
+    let all = runs.flat_map(|inverted| ADDRESSES.map(|(sector, expected)| why_of(kind, &inverted, sector, expected)));
+    all.collect::<BTreeSet<_>>().into_iter().collect()
+}
+
+/// And with the chosen ones all but 12 and 14, in which sync and mode fail and the address does not: a run over both covers it.
+#[test]
+fn fourteen_values_of_why_can_come() {
+    assert_eq!(values_of(Kind::Mode1), [0, 1, 2, 3, 6, 7, 10, 11, 15]);
+    assert_eq!(values_of(Kind::Form1), [0, 1, 2, 3, 6, 7, 8, 9, 15]);
+    assert_eq!(values_of(Kind::Form2), [0, 1, 2, 3, 6, 7, 8, 9, 15]);
+    let chosen = CHOSEN.iter().chain(&CHOSEN_AT_FIRST_ADDRESS).flat_map(|chosen| [chosen.why, chosen.why | 1]);
+    assert_eq!(chosen.collect::<BTreeSet<_>>().into_iter().collect::<Vec<_>>(), [0, 1, 2, 3, 4, 5, 6, 7, 13]);
 }

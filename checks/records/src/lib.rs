@@ -10,11 +10,15 @@ const RECORDS: usize = 33;
 
 /// A sector with its address and its parts.
 pub struct Record {
-    pub kind: u8,
+    /// 1 mode 1, 2 mode 2 form 1, 3 mode 2 form 2.
+    pub kind: u16,
     /// Minute, second and frame.
     pub address: [u16; 3],
     pub absolute_frame: u32,
     pub bcd: Vec<u8>,
+    pub mode: u8,
+    /// The two copies; zeros in mode 1.
+    pub subheaders: [[u8; 4]; 2],
     pub edc: Vec<u8>,
     pub user: Vec<u8>,
     pub clear: Vec<u8>,
@@ -31,17 +35,22 @@ impl Record {
         self.kind == 2
     }
 
+    pub fn subheader(&self) -> [u8; 4] {
+        self.subheaders[0]
+    }
+
     /// The byte that all user bytes are, where the record is one that a sector line of the bench can make.
     pub fn fill(&self) -> Option<u8> {
         let fill = self.user[0];
-        (self.is_mode_1() && self.user.iter().all(|&byte| byte == fill)).then_some(fill)
+        self.user.iter().all(|&byte| byte == fill).then_some(fill)
     }
 
     /// A buffer to seal: the record's user bytes. Sealing must write every
     /// other byte, so those are spoiled.
     pub fn unsealed(&self) -> Vec<u8> {
         let mut buffer: Vec<u8> = self.clear.iter().map(|byte| !byte).collect();
-        buffer[16..2064].copy_from_slice(&self.user);
+        let start = if self.is_mode_1() { 16 } else { 24 };
+        buffer[start..][..self.user.len()].copy_from_slice(&self.user);
         buffer
     }
 }
@@ -60,10 +69,12 @@ pub fn read() -> Vec<Record> {
 fn record(bytes: &[u8]) -> Record {
     let user_bytes = u16::from_le_bytes([bytes[6], bytes[7]]) as usize;
     Record {
-        kind: bytes[0],
+        kind: bytes[0] as u16,
         address: [from_bcd(bytes[2]), from_bcd(bytes[3]), from_bcd(bytes[4])],
         absolute_frame: word(bytes, 8),
         bcd: bytes[2..5].to_vec(),
+        mode: bytes[5],
+        subheaders: [&bytes[12..16], &bytes[16..20]].map(|copy| copy.try_into().expect("four bytes")),
         edc: bytes[20..24].to_vec(),
         user: bytes[24..24 + user_bytes].to_vec(),
         clear: bytes[2348..4700].to_vec(),

@@ -7,9 +7,6 @@ use mathlib.Core.List.{List, [], _∷_}
 use native.Mathlib.Omega.{arith}
 use lib.ListN.{length, replicate, length-replicate}
 use Rattle.calls.specs.declared.Call.the-variants.{SetExpected}
-use Rattle.sector.specs.Sector.{sealed}
-use Rattle.sector.proofs.Received.{received-sealed}
-use Rattle.sector.proofs.Sealed.{length-sealed, judged-own}
 use Rattle.controller.specs.Calls.{stepped}
 use Rattle.controller.specs.Host.{host-command}
 use Rattle.controller.specs.Named.{set-window, set-expected}
@@ -22,10 +19,11 @@ use Rattle.chip.specs.Sound.{sound}
 use Rattle.chip.specs.Machine.{State, the-chip}
 use Rattle.claims.specs.Cases.{Given4, Given7, Given8, GivenStart, with-ttc, Given10, CasesMet}
 use Rattle.claims.specs.Refinement.{Refines, Simulation}
-use Rattle.claims.specs.Runs.{write, set-window as window, command}
+use Rattle.claims.specs.Runs.{sealed, write, set-window as window, command}
 use Rattle.claims.proofs.Reached.{Follows, reached}
 use Rattle.claims.proofs.Starts.{given}
 use Rattle.claims.proofs.Runs.{calls, _then_, opened, frame, first, second}
+use Rattle.claims.proofs.Mode1.{judged-own, length-sealed, received-sealed}
 
 module _ (S : Simulation the-chip the-row) (refines : Follows S) (refines-sound : (s : State) (r : Row) → Refines s r → sound (s .chip) ≡ true) where
   module _ (u : List ℕ) (size : length u ≡ 2352) where
@@ -74,7 +72,7 @@ module _ (S : Simulation the-chip the-row) (refines : Follows S) (refines-sound 
                   room = simp (h .controller, represents-full (h .represents)) (simp (h .blocks));
                   expected = simp (h .controller);
                   size = length-sealed (frame 74) u size;
-                  fine = simp (received-sealed (frame 74) (frame 74) u size, judged-own (frame 74) u size);
+                  fine = simp (received-sealed (frame 74) u size (frame 74), judged-own (frame 74) u size);
                 },
               );
         }

@@ -1,5 +1,5 @@
 -- Demand 1 of the chip's definitions: each is taken apart once, at its tests. Assumes nothing.
-use Prim.Native.Nat.{ℕ, _+_, _-_, _*_, _≤_}
+use Prim.Native.Nat.{ℕ, suc, zero, _+_, _-_, _*_, _≤_}
 use mathlib.Core.Path.{_≡_, refl, sym, ap, ap₂, subst, _∙_}
 use mathlib.Core.Bool.{Bool, true, false, _&&_, _||_, not, false≢true}
 use mathlib.Core.List.{List, [], _∷_}
@@ -18,8 +18,11 @@ use Rattle.reply.specs.declared.Reply.{Reply}
 use Rattle.sector.specs.Address.{valid}
 use Rattle.sector.specs.Calls.{whole, seal-reply, seal-sector, open-reply, open-sector, refused as unjudged, judge-answer, parity-reply}
 use Rattle.sector.specs.Judge.{good, judgement}
-use Rattle.sector.specs.Sector.{sealed}
 use Rattle.sector.specs.declared.Address.{Address}
+use Rattle.sector.specs.declared.Subheader.{Subheader}
+use Rattle.sector.specs.Claims.{form-bit}
+use Rattle.sector.specs.Layout.{agrees, layout}
+use Rattle.sector.specs.Sector.{sealed}
 use Rattle.sector.specs.declared.Judged.{Judged}
 use Rattle.sector.specs.declared.Judgement.{Judgement}
 use Rattle.controller.specs.Bits.{bit, only, differs}
@@ -52,7 +55,7 @@ use Rattle.chip.specs.declared.Told.{Told}
 use Rattle.chip.specs.declared.Word.the-variants.{Handed, Refused}
 use Rattle.chip.specs.declared.WordTold.{WordTold}
 use Rattle.chip.proofs.Answers.{looked-is}
-use Rattle.claims.specs.Demand1.{Reasons, Applies, Lowest, ordered, one-of, read-registers, write-reasons, plain-reasons, reasons, Resultless, Refusal, sealing-reasons, Demand1}
+use Rattle.claims.specs.Demand1.{Reasons, Applies, Lowest, ordered, one-of, read-registers, write-reasons, plain-reasons, reasons, Resultless, Refusal, judging-reasons, known-kind, other-form, sealing-reasons, Demand1}
 use Rattle.claims.proofs.Refines.{refined-sound, refines-opened}
 
 -- Reasons in the order of their numbers
@@ -567,6 +570,24 @@ unopened n out =
 
 -- Sectors alone
 
+-- a kind is sealed where it is known and the form is its own
+agrees-is : (k : ℕ) (b : Bool) → (eqb k 1 || eqb k (if b then 3 else 2)) ≡ ((eqb k 1 || (eqb k 2 || eqb k 3)) && not ((eqb k 2 && b) || (eqb k 3 && not b)))
+agrees-is zero true = refl
+agrees-is zero false = refl
+agrees-is (suc zero) true = refl
+agrees-is (suc zero) false = refl
+agrees-is (suc (suc zero)) true = refl
+agrees-is (suc (suc zero)) false = refl
+agrees-is (suc (suc (suc zero))) true = refl
+agrees-is (suc (suc (suc zero))) false = refl
+agrees-is (suc (suc (suc (suc n)))) b =
+    let k = suc (suc (suc (suc n))) in
+    simp (ne-eqb k 1 (λ (e : k ≡ 1). omega arith), ne-eqb k 2 (λ (e : k ≡ 2). omega arith), ne-eqb k 3 (λ (e : k ≡ 3). omega arith), above b)
+  where
+    above : (b : Bool) → eqb (suc (suc (suc (suc n)))) (if b then 3 else 2) ≡ false
+    above true = ne-eqb (suc (suc (suc (suc n)))) 3 (λ (e : suc (suc (suc (suc n))) ≡ 3). omega arith)
+    above false = ne-eqb (suc (suc (suc (suc n)))) 2 (λ (e : suc (suc (suc (suc n))) ≡ 2). omega arith)
+
 module _ (s : List ℕ) (a : Address) where
   record Alone (f v : Bool) (k : ℕ) : Type 0 where
     lowest : Lowest ((not f, 1) ∷ (not v, 3) ∷ []) k
@@ -577,18 +598,36 @@ module _ (s : List ℕ) (a : Address) where
   alone true false = record { lowest = numbered ((false, 1) ∷ (true, 3) ∷ []) refl .lowest }
   alone true true = record { lowest = numbered ((false, 1) ∷ (false, 3) ∷ []) refl .lowest }
 
-  record Seals (f v : Bool) (r : Reply) (t : List ℕ) : Type 0 where
-    number-is : r .number ≡ (if f then (if v then 0 else 3) else 1)
-    refusal : (r .number ≡ 0 → ⊥) → (r .result ≡ 0) × (t ≡ s)
+  module _ (k : ℕ) (h : Subheader) where
+    -- then by the kind, and by its form
+    record Sealable (f v n w : Bool) (j : ℕ) : Type 0 where
+      lowest : Lowest ((not f, 1) ∷ (not v, 3) ∷ (not n, 3) ∷ (w, 3) ∷ []) j
 
-  seals : Seals (whole s) (valid a) (seal-reply s a) (seal-sector s a)
-  unfolding seal-reply seal-sector
-  seals = by (whole s) (valid a)
-    where
-      by : (f v : Bool) → Seals f v (if f then (if v then answer 0 else refusal 3) else refusal 1) (if f then (if v then sealed a s else s) else s)
-      by false v = record { number-is = refl; refusal = λ _. (refl, refl) }
-      by true false = record { number-is = refl; refusal = λ _. (refl, refl) }
-      by true true = record { number-is = refl; refusal = λ some. absurd (some refl) }
+    sealable : (f v n w : Bool) → Sealable f v n w (if f then (if v && (n && not w) then 0 else 3) else 1)
+    sealable false v n w = record { lowest = lowest-one _ _ (numbered ((not v, 3) ∷ (not n, 3) ∷ (w, 3) ∷ []) refl .lowest) }
+    sealable true false n w = record { lowest = numbered ((false, 1) ∷ (true, 3) ∷ (not n, 3) ∷ (w, 3) ∷ []) refl .lowest }
+    sealable true true false w = record { lowest = numbered ((false, 1) ∷ (false, 3) ∷ (true, 3) ∷ (w, 3) ∷ []) refl .lowest }
+    sealable true true true true = record { lowest = numbered ((false, 1) ∷ (false, 3) ∷ (false, 3) ∷ (true, 3) ∷ []) refl .lowest }
+    sealable true true true false = record { lowest = numbered ((false, 1) ∷ (false, 3) ∷ (false, 3) ∷ (false, 3) ∷ []) refl .lowest }
+
+    record Seals (f v : Bool) (r : Reply) (t : List ℕ) : Type 0 where
+      number-is : r .number ≡ (if f then (if v then 0 else 3) else 1)
+      refusal : (r .number ≡ 0 → ⊥) → (r .result ≡ 0) × (t ≡ s)
+
+    seals : Seals (whole s) (valid a && agrees k h) (seal-reply s a k h) (seal-sector s a k h)
+    unfolding seal-reply seal-sector
+    seals = by (whole s) (valid a && agrees k h)
+      where
+        by : (f v : Bool) → Seals f v (if f then (if v then answer 0 else refusal 3) else refusal 1) (if f then (if v then sealed (layout k) a h s else s) else s)
+        by false v = record { number-is = refl; refusal = λ _. (refl, refl) }
+        by true false = record { number-is = refl; refusal = λ _. (refl, refl) }
+        by true true = record { number-is = refl; refusal = λ some. absurd (some refl) }
+
+    lowest-seal : Lowest (sealing-reasons s a k h) (seal-reply s a k h .number)
+    lowest-seal =
+        subst (Lowest (sealing-reasons s a k h))
+        (sym (seals .number-is ∙ ap (λ (b : Bool). if whole s then (if valid a && b then 0 else 3) else 1) (agrees-is k (form-bit h))))
+        (sealable (whole s) (valid a) (known-kind k) (other-form k h) .lowest)
 
   record Judges (f v : Bool) (j : Judged) : Type 0 where
     number-is : j .number ≡ (if f then (if v then 0 else 3) else 1)
@@ -637,11 +676,11 @@ demand1 = record {
   unseen = unseen;
   opening = opening;
   unopened = unopened;
-  sealing = λ s a. subst (Lowest (sealing-reasons s a)) (sym (seals s a .number-is)) (alone s a (whole s) (valid a) .lowest);
-  unsealed = λ s a. seals s a .refusal;
+  sealing = lowest-seal;
+  unsealed = λ s a k h. seals s a k h .refusal;
   descrambling = λ s. opens s .lowest;
   unchanged = λ s. opens s .refusal;
-  judging = λ s a. subst (Lowest (sealing-reasons s a)) (sym (judges s a .number-is)) (alone s a (whole s) (valid a) .lowest);
+  judging = λ s a. subst (Lowest (judging-reasons s a)) (sym (judges s a .number-is)) (alone s a (whole s) (valid a) .lowest);
   no-fact = λ s a. judges s a .refusal;
   checking = λ s. checks s .lowest;
   unchecked = λ s. checks s .refusal;

@@ -1,6 +1,7 @@
 -- Demand 1; demand 3 of the row machine, how the chip refines it, and what follows: what counts, what the answers show, the letter, a chip reset, the
 -- regulator's sentence, machines that are shut out, runs, cases and numbers.
 pub mod Demand1
+pub mod Mode1
 pub mod RowSizes
 pub mod RowWords
 pub mod Simulated
@@ -35,3 +36,4 @@ pub mod WrongAbort
 pub mod WrongRestart
 pub mod WrongFacts
 pub mod OfChip
+pub mod ThreeKinds

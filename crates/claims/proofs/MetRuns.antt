@@ -7,9 +7,9 @@ use native.Mathlib.Omega.{arith}
 use lib.ListN.{length}
 use Rattle.sector.specs.Address.{next}
 use Rattle.parity.specs.Parity.{with-parity}
-use Rattle.sector.specs.Sector.{body, framed, encoded}
+use Rattle.sector.specs.Sector.{body, framed}
+use Rattle.sector.specs.Sector as sectors
 use Rattle.sector.specs.declared.Address.{Address}
-use Rattle.sector.proofs.Sealed.{judged-other}
 use Rattle.controller.specs.Calls.{stepped}
 use Rattle.controller.specs.Decoder.{admission, counted}
 use Rattle.controller.specs.Host.{host-word, host-command, ended, data-ended}
@@ -21,8 +21,9 @@ use Rattle.outcomes.specs.Machine.{Call, word, Answer, replied}
 use Rattle.outcomes.specs.Row.{row-answer, row-step, the-row}
 use Rattle.chip.specs.Machine.{the-chip}
 use Rattle.claims.specs.Refinement.{Simulation}
-use Rattle.claims.specs.Runs.{write, read, command, srst, disc, set-up, restart, transfer, ok, Gives, Met, MetClaim}
+use Rattle.claims.specs.Runs.{encoded, write, read, command, srst, disc, set-up, restart, transfer, ok, Gives, Met, MetClaim}
 use Rattle.claims.proofs.Runs.{frame, Ran, calls, _then_, opened, by-row, decoded, filled, own, first, second, by-simulation}
+use Rattle.claims.proofs.Mode1.{judged-other}
 
 module _ (u : List ℕ) (size : length u ≡ 2352) where
   other-frame : frame 1 ≡ frame 5 → ⊥
@@ -38,7 +39,7 @@ module _ (u : List ℕ) (size : length u ≡ 2352) where
       then decoded u size 1 _ _ (own u size 1) then calls restart _ then decoded u size 1 _ _ (own u size 1)
 
   pub row-met : Met the-row u
-  unfolding row-answer row-step stepped concluded settled admission counted next byte-count start reading.read registers.write registers.write-bicctl registers.write-acctl registers.write-ctrl0 registers.write-asctrl registers.write-astrg set-window host-word host-command ended data-ended encoded with-parity framed body
+  unfolding row-answer row-step stepped concluded settled admission counted next byte-count start reading.read registers.write registers.write-bicctl registers.write-acctl registers.write-ctrl0 registers.write-asctrl registers.write-astrg set-window host-word host-command ended data-ended sectors.encoded with-parity framed body
   row-met =
       record {
         words-handed = by-row (first u size then calls (transfer 12 2 ++ word ∷ word ∷ []) _);

@@ -8,9 +8,9 @@ use lib.ListN.{length}
 use Rattle.calls.specs.declared.Call.the-variants.{PacketByte}
 use Rattle.sector.specs.Address.{next}
 use Rattle.parity.specs.Parity.{with-parity}
-use Rattle.sector.specs.Sector.{body, framed, encoded}
+use Rattle.sector.specs.Sector.{body, framed}
+use Rattle.sector.specs.Sector as sectors
 use Rattle.sector.specs.declared.Address.{Address}
-use Rattle.sector.proofs.Sealed.{judged-other}
 use Rattle.controller.specs.Calls.{stepped}
 use Rattle.controller.specs.Decoder.{admission, counted}
 use Rattle.controller.specs.Host.{host-word, host-command}
@@ -21,9 +21,10 @@ use Rattle.controller.specs.Write as registers
 use Rattle.outcomes.specs.Machine.{Call, plain, sector, look, word, Answer, replied, refused}
 use Rattle.outcomes.specs.Row.{row-answer, row-step, the-row}
 use Rattle.claims.specs.NumbersMet.{NumbersMet, NumbersMetClaim}
-use Rattle.claims.specs.Runs.{write, read, set-window as window, command, disc, restart, ok, Gives}
+use Rattle.claims.specs.Runs.{encoded, write, read, set-window as window, command, disc, restart, ok, Gives}
 use Rattle.claims.proofs.Refines.{chip-simulates}
 use Rattle.claims.proofs.Runs.{frame, Ran, calls, _then_, opened, by-row, decoded, filled, own, first, by-simulation}
+use Rattle.claims.proofs.Mode1.{judged-other}
 
 module _ (u : List ℕ) (size : length u ≡ 2352) where
   other-frame : frame 1 ≡ frame 5 → ⊥
@@ -48,7 +49,7 @@ module _ (u : List ℕ) (size : length u ≡ 2352) where
       then decoded u size 2 _ _ (own u size 2)
 
   row-numbers : NumbersMet the-row u
-  unfolding row-answer row-step stepped concluded settled set-window encoded with-parity framed body
+  unfolding row-answer row-step stepped concluded settled set-window sectors.encoded with-parity framed body
   row-numbers =
       record {
         one-to-seven = refusing;

@@ -7,7 +7,8 @@ use native.Mathlib.Omega.{arith}
 use lib.ListN.{length, replicate, length-replicate}
 use Rattle.laws.proofs.Bytes.{bytes-replicate}
 use Rattle.parity.specs.Parity.{with-parity}
-use Rattle.sector.specs.Sector.{body, framed, encoded}
+use Rattle.sector.specs.Sector.{body, framed}
+use Rattle.sector.specs.Sector as sectors
 use Rattle.controller.specs.Calls.{stepped}
 use Rattle.controller.specs.Named as named
 use Rattle.controller.specs.Transfer.{settled, concluded}
@@ -16,13 +17,13 @@ use Rattle.chip.specs.Sound.{sound}
 use Rattle.chip.specs.Machine.{State, the-chip}
 use Rattle.claims.specs.Pins.{GivenLook, GivenCode, PinsMet}
 use Rattle.claims.specs.Refinement.{Refines, Simulation}
-use Rattle.claims.specs.Runs.{set-window}
+use Rattle.claims.specs.Runs.{encoded, set-window}
 use Rattle.claims.proofs.Reached.{Follows, reached}
 use Rattle.claims.proofs.Runs.{calls, _then_, first}
 
 -- of a sector of zeros the first user byte is not 1
 zeros-given : GivenCode (replicate 2352 0) 16 1
-unfolding encoded with-parity framed body
+unfolding sectors.encoded with-parity framed body
 zeros-given =
     record {
       size = length-replicate {A = ℕ} 2352 0;

@@ -1,26 +1,25 @@
 -- The runs of Pins: of the row machine, and so of the chip that simulates it. Assumes nothing.
-use Prim.Native.Nat.{ℕ, _+_, _-_, _<_, _≤_}
+use Prim.Native.Nat.{ℕ, _+_, _<_}
 use mathlib.Core.Path.{_≡_, refl, sym, ap, _∙_}
 use mathlib.Core.Bool.{true, false}
 use mathlib.Core.List.{List, [], _∷_, _++_}
 use native.Mathlib.Omega.{arith}
 use lib.ListN.{length, set, length-set}
 use borrow.Author.Tests.{le-ltb, lt-ltb, le-leb, ne-eqb}
-use Rattle.laws.specs.Bytes.{Bytes}
 use Rattle.scramble.specs.Scramble.{scrambled}
 use Rattle.scramble.proofs.Scrambled.{scrambled-twice, length-scrambled}
 use Rattle.sector.specs.Address.{next}
 use Rattle.sector.specs.Calls.{judge-answer}
 use Rattle.sector.specs.Claims.{verdict, address-alone, facts-of-change}
-use Rattle.sector.specs.Judge.{judgement, no-facts}
+use Rattle.sector.specs.Judge.{unwritten, judgement, no-facts}
+use Rattle.sector.specs.Layout.{kind-read, layout, layout-read}
 use Rattle.sector.specs.Receive.{received}
 use Rattle.parity.specs.Parity.{with-parity}
-use Rattle.sector.specs.Sector.{body, framed, encoded}
+use Rattle.sector.specs.Sector.{body, framed}
+use Rattle.sector.specs.Sector as sectors
 use Rattle.sector.specs.declared.Judgement.{Judgement}
 use Rattle.sector.proofs.Answers.{judge-done, judged-facts}
-use Rattle.sector.proofs.Claims.{damage-holds}
-use Rattle.sector.proofs.Frames.{length-encoded, bytes-encoded}
-use Rattle.sector.proofs.Sealed.{judged-own}
+use Rattle.sector.proofs.Claims.{damage-holds, found-holds}
 use Rattle.calls.specs.declared.Call.the-variants.{Reset}
 use Rattle.controller.specs.Calls.{stepped}
 use Rattle.controller.specs.Decoder.{admission, counted}
@@ -33,8 +32,9 @@ use Rattle.controller.specs.Write as registers
 use Rattle.outcomes.specs.Machine.{plain, look, word, replied, handed, seen}
 use Rattle.outcomes.specs.Row.{Row, row-answer, row-step, the-row}
 use Rattle.claims.specs.Pins.{GivenCode, damaged, kept}
-use Rattle.claims.specs.Runs.{read, set-window, srst, disc, set-up, restart, transfer, ok, Gives, telling-why}
+use Rattle.claims.specs.Runs.{encoded, read, set-window, srst, disc, set-up, restart, transfer, ok, Gives, telling-why}
 use Rattle.claims.proofs.Runs.{frame, Ran, calls, _then_, telling, opened, by-row, taken, decoded, decoding, filled, own, not-expected, first, second}
+use Rattle.claims.proofs.Mode1.{bytes-encoded, judged-own, kind-encoded, length-encoded}
 
 -- the sector sealed at 00:02:01, with a byte behind its header changed, is received as such, and its EDC alone fails
 module _ (u : List ℕ) (k v : ℕ) (h : GivenCode u k v) where
@@ -49,18 +49,33 @@ module _ (u : List ℕ) (k v : ℕ) (h : GivenCode u k v) where
       sym (judge-done (encoded (frame 1) u) (frame 1) (length-encoded (frame 1) u (h .size)) refl)
       ∙ ap (λ (j : Judgement). record { number = 0; judgement = j }) (judged-own (frame 1) u (h .size))
 
+  -- the sector is of mode 1, before and after, which always has a code
+  kind : kind-read (encoded (frame 1) u) ≡ 1
+  kind = kind-encoded (frame 1) u (h .size)
+
+  same-kind : kind-read changed ≡ kind-read (encoded (frame 1) u)
+  same-kind = let behind = h .behind in found-holds .kind-stays (encoded (frame 1) u) k v (λ (z : k ≡ 15). omega arith) (λ _. kind)
+
+  written : (x : List ℕ) → unwritten (layout-read (encoded (frame 1) u)) x ≡ false
+  unfolding unwritten layout
+  written x = ap (λ (n : ℕ). unwritten (layout n) x) kind
+
   -- no other fact is of its place
-  edc-alone : facts-of-change k ≡ record { sync = false; mode = false; edc = true; address = false }
+  edc-alone : facts-of-change (layout-read (encoded (frame 1) u)) k ≡ record { sync = false; mode = false; edc = true; address = false }
+  unfolding layout
   edc-alone =
       let behind = h .behind in
-      simp (le-ltb k 12 (omega arith), ne-eqb k 15 (λ z. omega arith), lt-ltb k 2068 (h .before), le-leb 12 k (omega arith), le-ltb k 15 (omega arith))
+      let before : k < 2064 + 4 = h .before in
+      ap (λ (n : ℕ). facts-of-change (layout n) k) kind
+      ∙ simp (le-ltb k 12 (omega arith), ne-eqb k 15 (λ z. omega arith), lt-ltb k (2064 + 4) before, le-leb 0 k (omega arith), le-leb 12 k (omega arith), le-ltb k 15 (omega arith))
 
   received-so : received (frame 1) (scrambled changed) ≡ record { bytes = changed; judgement = record { sync = false; mode = false; edc = true; address = false } }
   unfolding received
   received-so =
       ap (λ (l : List ℕ). record { bytes = l; judgement = judgement (frame 1) l }) (scrambled-twice changed whole)
       ∙ ap (λ (j : Judgement). record { bytes = changed; judgement = j })
-      (judged-facts changed (frame 1) (facts-of-change k) (damage-holds (encoded (frame 1) u) (frame 1) k v (bytes-encoded (frame 1) u (h .size) refl (h .bytes)) sealed-well (h .byte) (h .other)) ∙ edc-alone)
+      (judged-facts changed (frame 1) (facts-of-change (layout-read (encoded (frame 1) u)) k)
+      (damage-holds (encoded (frame 1) u) (frame 1) k v (bytes-encoded (frame 1) u (h .size) refl (h .bytes)) sealed-well (h .byte) (h .other) same-kind (written (encoded (frame 1) u)) (written changed)) ∙ edc-alone)
 
   pub wrong-code :
       Gives the-row 3
@@ -130,7 +145,7 @@ pub look-headers : (u : List ℕ) → length u ≡ 2352
     (set-up ++ disc u 0 ∷ disc u 1 ∷ set-window 12 2 ∷ look ∷ set-window 13 1 ∷ look ∷ transfer 14 1 ++ word ∷ look ∷ [])
     (ok ∷ ok ∷ ok ∷ ok ∷ ok ∷ ok ∷ seen (0x00 ∷ 0x02 ∷ 0x00 ∷ 0x01 ∷ []) ∷ ok ∷ seen (0x02 ∷ 0x00 ∷ []) ∷ ok ∷ ok ∷ ok ∷ ok
     ∷ handed 0x0100 ∷ seen (0x01 ∷ 0x01 ∷ []) ∷ [])
-unfolding row-answer row-step stepped concluded settled byte-count start registers.write registers.write-asctrl registers.write-astrg named.set-window host-word host-command ended data-ended encoded with-parity framed body
+unfolding row-answer row-step stepped concluded settled byte-count start registers.write registers.write-asctrl registers.write-astrg named.set-window host-word host-command ended data-ended sectors.encoded with-parity framed body
 look-headers u size =
     by-row (first u size then second u size
     then calls (set-window 12 2 ∷ look ∷ set-window 13 1 ∷ look ∷ transfer 14 1 ++ word ∷ look ∷ []) _)

@@ -13,12 +13,9 @@ use Rattle.laws.proofs.Choice.{left-true, right-true}
 use Rattle.sector.specs.Claims.{address-alone}
 use Rattle.sector.specs.Judge.{good, judgement, no-facts, why}
 use Rattle.sector.specs.Receive.{received}
-use Rattle.sector.specs.Sector.{encoded, sealed}
 use Rattle.sector.specs.declared.Address.{Address}
 use Rattle.sector.specs.declared.Judgement.{Judgement}
 use Rattle.sector.specs.Address.{next}
-use Rattle.sector.proofs.Received.{received-sealed}
-use Rattle.sector.proofs.Sealed.{length-sealed, judged-own, judged-other}
 use Rattle.controller.specs.Decoder.{admission, counted}
 use Rattle.controller.specs.Calls.{stepped}
 use Rattle.controller.specs.Fields.{_▹_, blimen≔, acctl≔, decen≔, tcc≔, bufc≔, expected≔}
@@ -30,7 +27,8 @@ use Rattle.outcomes.specs.Machine.{Call, sector, Answer, replied, Facts, Machin
 use Rattle.outcomes.specs.Row.{Row, answered, row-answer, row-step, the-row}
 use Rattle.claims.specs.Demand3.{hidden, masked}
 use Rattle.claims.specs.Refinement.{Simulation}
-use Rattle.claims.specs.Runs.{disc, set-up, ok, Gives, telling-why}
+use Rattle.claims.specs.Runs.{encoded, sealed, disc, set-up, ok, Gives, telling-why}
+use Rattle.claims.proofs.Mode1.{judged-other, judged-own, length-sealed, received-sealed}
 
 -- Runs
 
@@ -104,7 +102,7 @@ module _ (u : List ℕ) (size : length u ≡ 2352) (f : ℕ) (s : Row) (j : Judg
   pub decoded : Ran the-row (disc u f ∷ []) s (taken-answer j s ∷ []) (taken-row j (encoded (frame f) u) s)
   decoded =
       taken (sealed (frame f) u) (encoded (frame f) u) s j (length-sealed (frame f) u size)
-      (received-sealed (s .controller .expected) (frame f) u size ∙ ap (λ (x : Judgement). record { bytes = encoded (frame f) u; judgement = x }) e)
+      (received-sealed (frame f) u size (s .controller .expected) ∙ ap (λ (x : Judgement). record { bytes = encoded (frame f) u; judgement = x }) e)
 
 -- Three blocks with k good sectors decoded, from frame 0 on
 

@@ -18,6 +18,8 @@ use Rattle.calls.specs.declared.Call.the-variants.{Write, Read, SetBlock, SetWi
 use Rattle.reply.specs.declared.Reply.{Reply}
 use Rattle.sector.specs.Judge.{sync-holds, mode-holds, edc-holds, address-holds, judgement, good}
 use Rattle.sector.specs.Receive.{received}
+use Rattle.sector.proofs.Changes.{mode-cases}
+use Rattle.sector.proofs.Damage.{edc-cases}
 use Rattle.sector.specs.declared.Address.{Address}
 use Rattle.controller.specs.Bits.{bit}
 use Rattle.controller.specs.Fields.{_▹_}
@@ -98,7 +100,7 @@ unfolding received judgement
 checked a s h =
     let x = received a s .bytes in
     let b = neither (sync-holds x) (mode-holds x) (edc-holds x) (address-holds a x) h in
-    record { sync = b .0; mode = b .1; edc = b .2; address = b .3 }
+    record { sync = b .0; mode = mode-cases x (b .1); edc = edc-cases x (b .2); address = b .3 }
 
 -- The book's row, call by call
 

@@ -8,10 +8,7 @@ use native.Mathlib.Omega.{arith}
 use lib.ListN.{length}
 use borrow.Author.Tests.{eq-eqb}
 use Rattle.sector.specs.Judge.{judgement}
-use Rattle.sector.specs.Sector.{encoded, sealed}
 use Rattle.sector.specs.declared.Judgement.{Judgement}
-use Rattle.sector.proofs.Received.{received-sealed}
-use Rattle.sector.proofs.Sealed.{length-sealed}
 use Rattle.controller.specs.Decoder.{admission, counted}
 use Rattle.controller.specs.Host.{host-word}
 use Rattle.controller.specs.Transfer.{concluded}
@@ -27,8 +24,9 @@ use Rattle.chip.specs.Calls.{sector-number, sector-told, sector-ring, next-word
 use Rattle.chip.specs.Sound.{sound}
 use Rattle.chip.specs.Machine.{State, over, of-told, chip-answer, chip-step, the-chip}
 use Rattle.chip.specs.declared.Chip.{Chip}
-use Rattle.claims.specs.Runs.{disc}
+use Rattle.claims.specs.Runs.{encoded, sealed, disc}
 use Rattle.claims.proofs.Runs.{Ran, frame}
+use Rattle.claims.proofs.Mode1.{length-sealed, received-sealed}
 
 abbrev pub chip-with : Controller → Place → Chip
 chip-with k p = record { controller = k; place = p }
@@ -49,7 +47,7 @@ module _ (step : Call → State → State)
     on-disc u size f j admitted e =
         let whole = eq-eqb (length ring) (p .n * 2560) fits in
         let long = eq-eqb (length (sealed (frame f) u)) 2352 (length-sealed (frame f) u size) in
-        let r = received-sealed (k .expected) (frame f) u size in
+        let r = received-sealed (frame f) u size (k .expected) in
         record { told = simp (is-sound, whole, long, admitted, r, e); left = as-sector _ _ ∙ simp (is-sound, whole, long, admitted, r, e) }
 
     pub on-word :

@@ -13,7 +13,6 @@ use borrow.Author.Tests.{ne-eqb, lt-ltb, eq-eqb}
 use Rattle.laws.specs.Numbers.{weight}
 use Rattle.sector.specs.Address.{next}
 use Rattle.sector.specs.Judge.{no-facts}
-use Rattle.sector.specs.Sector.{encoded}
 use Rattle.controller.specs.Calls.{stepped}
 use Rattle.controller.specs.Decoder.{admission, counted}
 use Rattle.controller.specs.Fields.{_▹_, acctl≔, window≔, adcen≔, stwcen≔, bsy≔, ttc≔, mbc≔}
@@ -29,7 +28,7 @@ use Rattle.chip.specs.Sound.{sound}
 use Rattle.chip.specs.Machine.{State, the-chip, chip-answer, chip-step}
 use Rattle.claims.specs.Cases.{Asked, GivenStart, with-ttc, Reachable}
 use Rattle.claims.specs.Refinement.{Refines, Simulation}
-use Rattle.claims.specs.Runs.{write, set-window, command, disc, set-up, ok}
+use Rattle.claims.specs.Runs.{encoded, write, set-window, command, disc, set-up, ok}
 use Rattle.claims.specs.Starts.{Last, Begins, with-mbc, StartsMet}
 use Rattle.claims.proofs.Reached.{Follows, reached}
 use Rattle.claims.proofs.Runs.{Ran, calls, _then_, opened, frame, decoding, decoded, own, first, second}

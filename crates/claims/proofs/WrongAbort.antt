@@ -7,8 +7,8 @@ use native.Mathlib.Omega.{arith}
 use lib.ListN.{length, replicate, length-replicate}
 use Rattle.sector.specs.Address.{next}
 use Rattle.parity.specs.Parity.{with-parity}
-use Rattle.sector.specs.Sector.{body, framed, encoded}
-use Rattle.sector.proofs.Frames.{length-encoded}
+use Rattle.sector.specs.Sector.{body, framed}
+use Rattle.sector.specs.Sector as sectors
 use Rattle.controller.specs.Calls.{stepped}
 use Rattle.controller.specs.Decoder.{admission, counted}
 use Rattle.controller.specs.Fields.{_▹_, tcc≔, bufc≔, window≔, adcen≔, bsy≔, position≔}
@@ -28,12 +28,13 @@ use Rattle.chip.specs.Calls.{called}
 use Rattle.chip.specs.Sound.{sound}
 use Rattle.chip.specs.Machine.{over, chip-answer, chip-step}
 use Rattle.claims.specs.Demand3.{Demand3}
-use Rattle.claims.specs.Runs.{write, command, srst, disc, set-up, transfer, ok}
+use Rattle.claims.specs.Runs.{encoded, write, command, srst, disc, set-up, transfer, ok}
 use Rattle.claims.specs.Wrong.{Shut-out, abort-step, taking-abort}
 use Rattle.claims.proofs.MetRuns.{row-met}
 use Rattle.claims.proofs.OneBook.{shut-out}
 use Rattle.claims.proofs.Runs.{calls, _then_, frame, decoding, own}
 use Rattle.claims.proofs.Stages.{chip-with, on-disc, on-word, one-stored, two-stored}
+use Rattle.claims.proofs.Mode1.{length-encoded}
 
 -- the controller when the transfer has started, and after an abort that takes the half-read block
 abbrev moving : Controller
@@ -68,7 +69,7 @@ module _ (x u : List ℕ) (fits : length x ≡ 3 * 2560) (size : length u ≡ 23
       answers taking-abort (set-up ++ disc u 0 ∷ disc u 1 ∷ transfer 14 2 ++ word ∷ srst ∷ command 0 ∷ write 0x17 0x04 ∷ word ∷ [])
       (taking-abort .opened 3 x)
       ≡ ok ∷ ok ∷ ok ∷ ok ∷ ok ∷ ok ∷ ok ∷ ok ∷ ok ∷ handed 256 ∷ ok ∷ ok ∷ ok ∷ handed 257 ∷ []
-  unfolding abort-step chip-answer chip-step opened called sound stepped concluded settled admission counted next byte-count start registers.write registers.write-bicctl registers.write-acctl registers.write-ctrl0 registers.write-asctrl registers.write-astrg set-window host-word host-command encoded with-parity framed body
+  unfolding abort-step chip-answer chip-step opened called sound stepped concluded settled admission counted next byte-count start registers.write registers.write-bicctl registers.write-acctl registers.write-ctrl0 registers.write-asctrl registers.write-astrg set-window host-word host-command sectors.encoded with-parity framed body
   run =
       (calls set-up (taking-abort .opened 3 x)
       then on-disc abort-step (λ _ _. refl) (λ _. refl) (decoding 0) (at 3 0 0 0) x refl fits u size 0 _ refl (own u size 0)

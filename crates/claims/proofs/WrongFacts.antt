@@ -11,10 +11,7 @@ use borrow.Author.Tests.{eq-eqb}
 use Rattle.laws.specs.Choice.{if_then_else_}
 use Rattle.sector.specs.Claims.{address-alone}
 use Rattle.sector.specs.Receive.{Received, received}
-use Rattle.sector.specs.Sector.{sealed}
 use Rattle.sector.specs.declared.Judgement.{Judgement}
-use Rattle.sector.proofs.Received.{received-sealed}
-use Rattle.sector.proofs.Sealed.{length-sealed}
 use Rattle.controller.specs.Decoder.{admission}
 use Rattle.controller.specs.Fields.{_▹_, judgement≔}
 use Rattle.outcomes.specs.Book.{facts-of, first-book, feed}
@@ -23,9 +20,10 @@ use Rattle.chip.specs.Chip as chip
 use Rattle.chip.specs.Calls.{sector-number, sector-told}
 use Rattle.chip.specs.Sound.{sound}
 use Rattle.chip.specs.Machine.{State, over, chip-answer, chip-step}
-use Rattle.claims.specs.Runs.{disc}
+use Rattle.claims.specs.Runs.{sealed, disc}
 use Rattle.claims.specs.Wrong.{Shut-out, refused-step, keeping-refused}
 use Rattle.claims.proofs.Runs.{frame, not-expected}
+use Rattle.claims.proofs.Mode1.{length-sealed, received-sealed}
 
 module _ (u : List ℕ) (size : length u ≡ 2352) (x : List ℕ) (fits : length x ≡ 3 * 2560) where
   abbrev fresh : State
@@ -43,7 +41,7 @@ module _ (u : List ℕ) (size : length u ≡ 2352) (x : List ℕ) (fits : length
   unfolding refused-step chip.opened
   shows =
       ap (λ (r : Answer). facts-of ((if eqb (number r) 0 then chip-step (disc u 5) fresh else over (record { controller = fresh .chip .controller ▹ judgement≔ (received (fresh .chip .controller .expected) (sealed (frame 5) u) .judgement); place = fresh .chip .place }) x) .chip .controller)) refused
-      ∙ ap (λ (r : Received). record { judgement = r .judgement }) (received-sealed (frame 0) (frame 5) u size)
+      ∙ ap (λ (r : Received). record { judgement = r .judgement }) (received-sealed (frame 5) u size (frame 0))
       ∙ ap (λ (j : Judgement). record { judgement = j }) (not-expected u size)
 
   -- the book takes no note of it

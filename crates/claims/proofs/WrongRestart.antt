@@ -8,8 +8,8 @@ use lib.ListN.{length, replicate, length-replicate}
 use Rattle.sector.specs.Address.{next}
 use Rattle.sector.specs.Claims.{address-alone}
 use Rattle.parity.specs.Parity.{with-parity}
-use Rattle.sector.specs.Sector.{body, framed, encoded}
-use Rattle.sector.proofs.Frames.{length-encoded}
+use Rattle.sector.specs.Sector.{body, framed}
+use Rattle.sector.specs.Sector as sectors
 use Rattle.controller.specs.Calls.{stepped}
 use Rattle.controller.specs.Decoder.{admission, counted}
 use Rattle.controller.specs.Fields.{_▹_, bufc≔, held≔, judgement≔, window≔, adcen≔, bsy≔}
@@ -29,11 +29,12 @@ use Rattle.chip.specs.Calls.{called}
 use Rattle.chip.specs.Sound.{sound}
 use Rattle.chip.specs.Machine.{over, chip-answer, chip-step}
 use Rattle.claims.specs.Demand3.{Demand3}
-use Rattle.claims.specs.Runs.{disc, set-up, restart, transfer, ok, Gives}
+use Rattle.claims.specs.Runs.{encoded, disc, set-up, restart, transfer, ok, Gives}
 use Rattle.claims.specs.Wrong.{Shut-out, restart-step, bad-restart}
 use Rattle.claims.proofs.OneBook.{shut-out}
 use Rattle.claims.proofs.Runs.{calls, _then_, opened, by-row, decoded, frame, decoding, filled, own, not-expected}
 use Rattle.claims.proofs.Stages.{chip-with, on-disc, on-word, one-stored, two-stored}
+use Rattle.claims.proofs.Mode1.{length-encoded}
 
 -- the controller when the transfer has started
 abbrev moving : Controller
@@ -62,7 +63,7 @@ module _ (x u : List ℕ) (fits : length x ≡ 3 * 2560) (size : length u ≡ 23
   run :
       answers bad-restart (set-up ++ disc u 5 ∷ restart ++ disc u 0 ∷ transfer 14 1 ++ word ∷ []) (bad-restart .opened 3 x)
       ≡ ok ∷ ok ∷ ok ∷ replied 0 1 ∷ ok ∷ ok ∷ ok ∷ ok ∷ ok ∷ ok ∷ ok ∷ handed 261 ∷ []
-  unfolding restart-step chip-answer chip-step chip.opened called sound stepped concluded settled admission counted next byte-count start registers.write registers.write-bicctl registers.write-acctl registers.write-ctrl0 registers.write-asctrl registers.write-astrg set-window host-word host-command encoded with-parity framed body
+  unfolding restart-step chip-answer chip-step chip.opened called sound stepped concluded settled admission counted next byte-count start registers.write registers.write-bicctl registers.write-acctl registers.write-ctrl0 registers.write-asctrl registers.write-astrg set-window host-word host-command sectors.encoded with-parity framed body
   run =
       (calls set-up (bad-restart .opened 3 x)
       then on-disc restart-step (λ _ _. refl) (λ _. refl) (decoding 0) (at 3 0 0 0) x refl fits u size 5 _ refl (not-expected u size)
@@ -76,7 +77,7 @@ module _ (u : List ℕ) (size : length u ≡ 2352) where
   right :
       Gives the-row 3 (set-up ++ disc u 5 ∷ restart ++ disc u 0 ∷ transfer 14 1 ++ word ∷ [])
       (ok ∷ ok ∷ ok ∷ replied 0 1 ∷ ok ∷ ok ∷ ok ∷ ok ∷ ok ∷ ok ∷ ok ∷ handed 256 ∷ [])
-  unfolding row-answer row-step stepped concluded settled admission counted next byte-count start registers.write registers.write-bicctl registers.write-acctl registers.write-ctrl0 registers.write-asctrl registers.write-astrg set-window host-word host-command encoded with-parity framed body
+  unfolding row-answer row-step stepped concluded settled admission counted next byte-count start registers.write registers.write-bicctl registers.write-acctl registers.write-ctrl0 registers.write-asctrl registers.write-astrg set-window host-word host-command sectors.encoded with-parity framed body
   right =
       by-row (calls set-up (opened 3) then decoded u size 5 (filled 0 []) _ (not-expected u size) then calls restart _
       then decoded u size 0 _ _ (own u size 0) then calls (transfer 14 1 ++ word ∷ []) (filled 1 (encoded (frame 0) u ∷ [])))

@@ -15,8 +15,10 @@ use Rattle.calls.specs.declared.Call.{Call as Plain}
 use Rattle.calls.specs.declared.Call.the-variants.{Write, Read, SetBlock, SetWindow, SetExpected, PacketByte, Reset, Command, PacketWord, Status, Srst}
 use Rattle.reply.specs.Reply.{refusal, answer}
 use Rattle.sector.specs.Address.{valid}
+use Rattle.sector.specs.Claims.{form-bit}
 use Rattle.sector.specs.Calls.{whole, seal-reply, seal-sector, open-reply, open-sector, refused as unjudged, judge-answer, parity-reply}
 use Rattle.sector.specs.declared.Address.{Address}
+use Rattle.sector.specs.declared.Subheader.{Subheader}
 use Rattle.controller.specs.Bits.{bit, only, differs}
 use Rattle.controller.specs.Decoder.{at-stop}
 use Rattle.controller.specs.Named.{window-fits}
@@ -129,9 +131,18 @@ pub record Refusal (call : Call) (s : State) : Type 0 where
   pub resultless : Resultless (chip-answer call s)
   pub unchanged : chip-step call s ≡ s
 
--- sectors alone: 1 a wrong length, 3 a bad address
-abbrev pub sealing-reasons : List ℕ → Address → Reasons
-sealing-reasons s a = (not (whole s), 1) ∷ (not (valid a), 3) ∷ []
+-- sectors alone: 1 a wrong length, 3 a bad address; of sealing also 3 an unknown kind, and 3 a form bit that disagrees with the kind
+abbrev pub judging-reasons : List ℕ → Address → Reasons
+judging-reasons s a = (not (whole s), 1) ∷ (not (valid a), 3) ∷ []
+
+abbrev pub known-kind : ℕ → Bool
+known-kind k = eqb k 1 || (eqb k 2 || eqb k 3)
+
+abbrev pub other-form : ℕ → Subheader → Bool
+other-form k h = (eqb k 2 && form-bit h) || (eqb k 3 && not (form-bit h))
+
+abbrev pub sealing-reasons : List ℕ → Address → ℕ → Subheader → Reasons
+sealing-reasons s a k h = (not (whole s), 1) ∷ (not (valid a), 3) ∷ (not (known-kind k), 3) ∷ (other-form k h, 3) ∷ []
 
 pub record Demand1 : Type 0 where
   -- a controller's definition by a list of tests in the order of their numbers gives the lowest that applies
@@ -148,11 +159,12 @@ pub record Demand1 : Type 0 where
   pub opening : (n : ℕ) → 3 ≤ n → n ≤ 255 → (opened n .reply ≡ answer 0) × (opened n .chip .place .n ≡ n) × (sound (opened n .chip) ≡ true)
   pub unopened : (n : ℕ) → (3 ≤ n → n ≤ 255 → ⊥) → (opened n .reply ≡ refusal 1) × (opened n .chip .place .n ≡ 0) × (sound (opened n .chip) ≡ false)
   -- a sector that is lent to be sealed, opened, judged or checked: a refusal changes no byte, and has a zero result or no fact
-  pub sealing : (s : List ℕ) (a : Address) → Lowest (sealing-reasons s a) (seal-reply s a .number)
-  pub unsealed : (s : List ℕ) (a : Address) → (seal-reply s a .number ≡ 0 → ⊥) → (seal-reply s a .result ≡ 0) × (seal-sector s a ≡ s)
+  pub sealing : (s : List ℕ) (a : Address) (k : ℕ) (h : Subheader) → Lowest (sealing-reasons s a k h) (seal-reply s a k h .number)
+  pub unsealed : (s : List ℕ) (a : Address) (k : ℕ) (h : Subheader) → (seal-reply s a k h .number ≡ 0 → ⊥)
+      → (seal-reply s a k h .result ≡ 0) × (seal-sector s a k h ≡ s)
   pub descrambling : (s : List ℕ) → Lowest ((not (whole s), 1) ∷ []) (open-reply s .number)
   pub unchanged : (s : List ℕ) → (open-reply s .number ≡ 0 → ⊥) → (open-reply s .result ≡ 0) × (open-sector s ≡ s)
-  pub judging : (s : List ℕ) (a : Address) → Lowest (sealing-reasons s a) (judge-answer s a .number)
+  pub judging : (s : List ℕ) (a : Address) → Lowest (judging-reasons s a) (judge-answer s a .number)
   pub no-fact : (s : List ℕ) (a : Address) → (judge-answer s a .number ≡ 0 → ⊥) → judge-answer s a ≡ unjudged (judge-answer s a .number)
   pub checking : (s : List ℕ) → Lowest ((not (whole s), 1) ∷ []) (parity-reply s .number)
   pub unchecked : (s : List ℕ) → (parity-reply s .number ≡ 0 → ⊥) → parity-reply s .result ≡ 0

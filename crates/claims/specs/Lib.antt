@@ -1,6 +1,6 @@
 -- Claims about calls and lists of calls: demand 1; demand 3 of any machine, how the chip refines the row machine, what the chip counts and what its
 -- answers show of it, consequences for the letter, a chip reset, the regulator's sentence, machines that demand 3 shuts out, runs that show these to be
--- no empty claims, the bench cases, the numbers that they leave open, and starts with their byte count.
+-- no empty claims, the bench cases, the numbers that they leave open, starts with their byte count, and sectors of the three kinds.
 pub mod Demand1
 pub mod Demand3
 pub mod Refinement
@@ -15,3 +15,4 @@ pub mod NumbersMet
 pub mod Cases
 pub mod Pins
 pub mod Starts
+pub mod ThreeKinds

@@ -12,7 +12,6 @@ use Rattle.calls.specs.declared.Call.{Call as Plain}
 use Rattle.calls.specs.declared.Call.the-variants.{Reset, Status}
 use Rattle.laws.specs.Bytes.{Bytes}
 use Rattle.scramble.specs.Scramble.{scrambled}
-use Rattle.sector.specs.Sector.{encoded}
 use Rattle.controller.specs.Fields.{_▹_, tcc≔, bufc≔, ttc≔, expected≔, buflim≔, acctl≔, judgement≔, mbc≔, window≔, transfer≔, received≔}
 use Rattle.controller.specs.State.{initial}
 use Rattle.controller.specs.declared.state.Controller.{Controller}
@@ -26,7 +25,7 @@ use Rattle.chip.specs.Machine.{the-chip}
 use Rattle.chip.specs.declared.Chip.{Chip}
 use Rattle.chip.specs.declared.Word.the-variants.{Refused}
 use Rattle.claims.specs.Cases.{number, address, Reachable}
-use Rattle.claims.specs.Runs.{read, set-window, srst, disc, set-up, restart, transfer, ok, Gives, telling-why}
+use Rattle.claims.specs.Runs.{encoded, read, set-window, srst, disc, set-up, restart, transfer, ok, Gives, telling-why}
 
 -- Looks
 

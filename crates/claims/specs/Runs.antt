@@ -6,7 +6,10 @@ use mathlib.Core.Path.{_≡_}
 use mathlib.Core.List.{List, [], _∷_, _++_}
 use lib.ListN.{length}
 use Rattle.sector.specs.Judge.{why}
-use Rattle.sector.specs.Sector.{sealed}
+use Rattle.sector.specs.Calls.{no-subheader}
+use Rattle.sector.specs.Layout.{mode-1}
+use Rattle.sector.specs.Sector as sectors
+use Rattle.sector.specs.declared.Address.{Address}
 use Rattle.calls.specs.declared.Call.the-variants.{Write, Read, SetWindow, Command, Srst}
 use Rattle.outcomes.specs.Machine.{Call, plain, sector, word, Answer, replied, handed, Machine, answers}
 use Rattle.chip.specs.Machine.{the-chip}
@@ -27,7 +30,14 @@ command v = plain (Command v)
 abbrev pub srst : Call
 srst = plain Srst
 
--- a sector sealed at 00:02:f with the user bytes of u; for f below 10 its word at byte 14 is 256 + f (the frame, then mode 1)
+-- a sector of mode 1 at an address with the user bytes of u, and as it goes to the disc
+abbrev pub encoded : Address → List ℕ → List ℕ
+encoded a u = sectors.encoded mode-1 a no-subheader u
+
+abbrev pub sealed : Address → List ℕ → List ℕ
+sealed a u = sectors.sealed mode-1 a no-subheader u
+
+-- one sealed at 00:02:f; for f below 10 its word at byte 14 is 256 + f (the frame, then mode 1)
 abbrev pub disc : List ℕ → ℕ → Call
 disc u f = sector (sealed (record { minute = 0; second = 2; frame = f }) u)
 

@@ -1,19 +1,22 @@
 -- The regulator's sentence: no block shall count that was not read and checked since the ring was started (paper 01, "The ring", "Sectors",
 -- "Demand 3 in full"). It is stated of the chip with its memory, whatever lay there, after any list of calls, so that it holds before and after every
--- call. Started is the opening or the last chip reset; checked is what paper 01 judges: sync, mode 1, EDC and the address expected of the sector
--- when it came. What it does not say: that a sector counts only once and in the order of the calls, which is Accounted and Never-again (Letter.antt);
--- anything of parity, which is not judged; and that a sector with a right EDC has no wrong byte. Assumes nothing.
+-- call. Started is the opening or the last chip reset; checked is what a sector of its own kind is judged by (paper 02, ask 4): sync, mode, EDC and the
+-- address expected of the sector when it came. Of a form 2 sector without a code nothing more than sync, mode, the two copies of its subheader and the
+-- address was checked, and it counts: its user bytes were read and not checked. What it does not say: that a sector counts only once and in the order of
+-- the calls, which is Accounted and Never-again (Letter.antt); anything of parity, which is not judged; and that a sector with a right EDC has no wrong
+-- byte, nor that its kind is the one it was sealed as (FoundClaim and TwoKindsClaim of the sectors). Assumes nothing.
 use Prim.Native.Nat.{ℕ, _+_, _*_, _%_, _<_, _≤_}
 use mathlib.Core.Path.{_≡_}
 use mathlib.Core.Bool.{true}
 use mathlib.Core.List.{List, [], _∷_, _++_}
 use mathlib.Core.Logic.{_⊎_}
 use lib.Dec.{eqb}
-use lib.ListN.{length, take, drop, getD}
+use lib.ListN.{length, take, drop, getD, replicate}
 use Rattle.laws.specs.Bytes.{word-at}
 use Rattle.laws.specs.Choice.{if_then_else_}
 use Rattle.calls.specs.Choice.{if-reset}
-use Rattle.sector.specs.Judge.{sync-holds, mode-holds, edc-holds, address-holds}
+use Rattle.sector.specs.Judge.{sync-holds, code-right, address-holds}
+use Rattle.sector.specs.Layout.{kind-read, layout-read}
 use Rattle.sector.specs.Receive.{received}
 use Rattle.sector.specs.declared.Address.{Address}
 use Rattle.ring.specs.Memory.{block}
@@ -45,12 +48,18 @@ arrivals M [] s b came = came
 arrivals M (c ∷ cs) s b came =
     arrivals M cs (M .step c s) (feed c (number (M .answer c s)) b) (bring c (number (M .answer c s)) b came)
 
--- Checked: what was found of a descrambled sector x that was expected at a
+-- Checked: what was found of a descrambled sector x that was expected at a, by the kind that was read from it
+
+-- a sector of form 2 without a code
+abbrev pub Without-code : List ℕ → Type 0
+Without-code x = (kind-read x ≡ 3) × (take 4 (drop 2348 x) ≡ replicate 4 0)
 
 pub record Checked (a : Address) (x : List ℕ) : Type 0 where
   pub sync : sync-holds x ≡ true
-  pub mode : mode-holds x ≡ true
-  pub edc : edc-holds x ≡ true
+  -- byte 15 is 1; or it is 2, and the two copies of the subheader are equal
+  pub mode : (getD x 15 0 ≡ 1) ⊎ ((getD x 15 0 ≡ 2) × (take 4 (drop 16 x) ≡ take 4 (drop 20 x)))
+  -- the code is right for the bytes that it covers in that kind; or there is none
+  pub edc : (code-right (layout-read x) x ≡ true) ⊎ Without-code x
   pub address : address-holds a x ≡ true
 
 abbrev pub Among : Arrival → List Arrival → Type 0

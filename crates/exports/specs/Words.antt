@@ -2,10 +2,12 @@
 -- numbers"). What a call leaves in the sector is sector's to say, and what lines leave script's. Assumes nothing.
 use mathlib.Core.List.{List}
 use Prim.Native.Nat.{ℕ}
+use lib.ListN.{getD}
 use Rattle.laws.specs.Bytes.{pair}
 use Rattle.sector.specs.declared.Address.{Address}
 use Rattle.reply.specs.declared.Reply.{Reply}
 use Rattle.sector.specs.declared.Judged.{Judged}
+use Rattle.sector.specs.declared.Subheader.{Subheader}
 use Rattle.sector.specs.Calls.{seal-reply, open-reply, judge-answer, parity-reply}
 use Rattle.sector.specs.Judge.{why}
 use Rattle.script.specs.Bench.{Left, started}
@@ -25,8 +27,12 @@ reply-word r = packed (r .number) (r .result)
 abbrev pub judged-word : Judged → ℕ
 judged-word j = packed (j .number) (why (j .judgement))
 
-abbrev pub seal-word : List ℕ → Address → ℕ
-seal-word s a = reply-word (seal-reply s a)
+-- a subheader that is lent as four bytes
+abbrev pub subheader-in : List ℕ → Subheader
+subheader-in b = record { file = getD b 0 0; channel = getD b 1 0; submode = getD b 2 0; coding = getD b 3 0 }
+
+abbrev pub seal-word : List ℕ → Address → ℕ → Subheader → ℕ
+seal-word s a k h = reply-word (seal-reply s a k h)
 
 abbrev pub open-word : List ℕ → ℕ
 open-word s = reply-word (open-reply s)

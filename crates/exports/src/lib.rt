@@ -1,6 +1,6 @@
 // The calls on sectors, the chip and the bench for C and Rust; include/cdrom.h declares them and says what a C caller must keep. A slice is
 // passed as a pointer and then a length, an array or a number that is lent as a pointer. None has a precondition: any bytes, of any number,
-// any words of a record and any address are answered, and a refusal changes no byte. The chip's calls are in `plain` and `memory`.
+// any words of a record, any address, kind and subheader are answered, and a refusal changes no byte. The chip's calls are in `plain` and `memory`.
 mod answer;
 mod memory;
 mod plain;
@@ -9,17 +9,49 @@ use answer::at;
 use answer::packed;
 ghost use mathlib.Core.Path.{_≡_};
 ghost use Rattle.edc.specs.Edc.{edc};
-ghost use Rattle.sector.specs.Calls.{seal-sector, open-sector};
-ghost use Rattle.exports.specs.Words.{at, seal-word, open-word, judge-word, parity-word, bench-run};
+ghost use Rattle.sector.specs.Calls.{seal-sector, open-sector, no-subheader};
+ghost use Rattle.exports.specs.Words.{at, subheader-in, seal-word, open-word, judge-word, parity-word, bench-run};
 use script::Bench;
+use sector::Subheader;
 
-// Seals a buffer at an address where it lies.
+// Seals a buffer at an address where it lies, as a sector of mode 1.
 // Ruled out: one that seals at another address, and one that answers 0 where it refused.
 #[no_mangle]
 pub extern "C" fn cdrom_seal(sector: &mut [u8], minute: u16, second: u16, frame: u16) -> u32
-    ensures { λ r. ⌜ (r ≡ seal-word (now (sector .entry)) (at minute second frame)) × (now (sector .exit) ≡ seal-sector (now (sector .entry)) (at minute second frame)) ⌝ }
+    ensures { λ r. ⌜ (r ≡ seal-word (now (sector .entry)) (at minute second frame) 1 no-subheader)
+        × (now (sector .exit) ≡ seal-sector (now (sector .entry)) (at minute second frame) 1 no-subheader) ⌝ }
 {
-    let sealed = sector::seal(sector, at(minute, second, frame));
+    let subheader = Subheader {
+        file: 0,
+        channel: 0,
+        submode: 0,
+        coding: 0,
+    };
+    let sealed = sector::seal(sector, at(minute, second, frame), 1, subheader);
+    packed(sealed.number, sealed.result)
+}
+
+// Seals a buffer at an address where it lies, as a sector of the kind, in mode 2 with the subheader.
+// Ruled out: one that cuts the kind to eight bits, and one that reads the subheader's bytes in another order.
+#[no_mangle]
+pub extern "C" fn cdrom_seal_xa(
+    sector: &mut [u8],
+    minute: u16,
+    second: u16,
+    frame: u16,
+    kind: u16,
+    subheader: &[u8; 4],
+) -> u32
+    ensures { λ r. ⌜ (r ≡ seal-word (now (sector .entry)) (at minute second frame) kind (subheader-in (now (subheader .entry))))
+        × (now (sector .exit) ≡ seal-sector (now (sector .entry)) (at minute second frame) kind (subheader-in (now (subheader .entry)))) ⌝ }
+{
+    let bytes = Subheader {
+        file: subheader[0],
+        channel: subheader[1],
+        submode: subheader[2],
+        coding: subheader[3],
+    };
+    let sealed = sector::seal(sector, at(minute, second, frame), kind, bytes);
     packed(sealed.number, sealed.result)
 }
 

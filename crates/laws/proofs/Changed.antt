@@ -20,6 +20,10 @@ module _ (a w k v : ℕ) (l : List ℕ) where
       let past : w ≤ k - a = omega arith in
       ap (λ (i : ℕ). take w (drop a (set l i v))) place ∙ ap (take w) (drop-set-add a l (k - a) v) ∙ take-set-le w (drop a l) (k - a) v past
 
+  -- what is left of the list behind a place before it
+  pub drop-changed : a ≤ k → drop a (set l k v) ≡ set (drop a l) (k - a) v
+  drop-changed from = let place : k ≡ a + (k - a) = omega arith in ap (λ (i : ℕ). drop a (set l i v)) place ∙ drop-set-add a l (k - a) v
+
   pub window-differs : a ≤ k → k < a + w → k < length l → (v ≡ getD l k 0 → ⊥) → take w (drop a (set l k v)) ≡ take w (drop a l) → ⊥
   window-differs from to inside new e =
       let place : a + (k - a) ≡ k = omega arith in

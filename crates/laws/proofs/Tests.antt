@@ -2,7 +2,9 @@
 use mathlib.Core.Path.{_≡_, refl, sym, _∙_}
 use mathlib.Core.Bool.{Bool, true, false, _&&_, _||_, not, false≢true}
 use mathlib.Core.Logic.{_⊎_, inl, inr}
-use Prim.Native.Nat.{ℕ}
+use Prim.Native.Nat.{ℕ, _<_, _≤_}
+use lib.Dec.{leb, ltb}
+use borrow.Author.Tests.{leb-false, ltb-false}
 use Rattle.laws.specs.Choice.{if_then_else_}
 use Rattle.laws.specs.Numbers.{weight}
 use Rattle.laws.proofs.Choice.{left-true, right-true}
@@ -39,6 +41,14 @@ or-true false b h = inr h
 pub or-left : (a b : Bool) → a ≡ true → (a || b) ≡ true
 or-left a b p = simp p
 
+pub or-first : (a b : Bool) → b ≡ false → a ≡ (a || b)
+or-first true b e = refl
+or-first false b e = sym e
+
+pub and-last : (a b : Bool) → a ≡ true → (a && b) ≡ b
+and-last true b e = refl
+and-last false b e = absurd (false≢true e)
+
 pub or-right : (a b : Bool) → b ≡ true → (a || b) ≡ true
 or-right true b p = refl
 or-right false b p = p
@@ -67,3 +77,16 @@ if-not P false x y f g = f refl
 -- a switch that is off weighs nothing
 pub weightless : (b : Bool) (w : ℕ) → b ≡ false → weight b w ≡ 0
 weightless b w h = simp h
+
+-- a switch that was not set is set exactly where it is set by something
+pub exactly : (inside was is : Bool) → (inside ≡ true → was ≡ false → is ≡ true) → (inside ≡ false → is ≡ was) → was ≡ false → is ≡ inside
+exactly true was is set-by stays unset = set-by refl unset
+exactly false was is set-by stays unset = stays refl ∙ unset
+
+-- outside of a run of numbers
+pub out-of-run : (a b k : ℕ) → (leb a k && ltb k b) ≡ false → (k < a) ⊎ (b ≤ k)
+out-of-run a b k e = by (leb a k) refl e
+  where
+    by : (t : Bool) → leb a k ≡ t → (t && ltb k b) ≡ false → (k < a) ⊎ (b ≤ k)
+    by true f g = inr (ltb-false k b g)
+    by false f g = inl (leb-false a k f)

@@ -1,6 +1,6 @@
 // Numbers that the code shares: what is not about CD-ROMs.
 ghost use mathlib.Core.Path.{_≡_};
-ghost use Prim.Native.Nat.{_-_, _<_, _≤_, min};
+ghost use Prim.Native.Nat.{_-_, _%_, _<_, _≤_, min};
 ghost use Rattle.laws.specs.Numbers.{weight};
 
 // a less b, not below 0.
@@ -42,6 +42,14 @@ pub fn wide(byte: u8) -> u16
     ensures { λ r. ⌜ (r ≡ byte) × (r < 256) ⌝ }
 {
     byte as u16
+}
+
+// The low byte of a number of sixteen bits.
+// Ruled out: one that gives the high byte, and one that gives 255 for every number above it.
+pub fn low_byte(n: u16) -> u8
+    ensures { λ r. ⌜ r ≡ n % 256 ⌝ }
+{
+    (n % 256) as u8
 }
 
 // A switch as the bit of weight w.

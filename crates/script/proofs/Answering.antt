@@ -1,32 +1,33 @@
 -- What the bench answers, by cases of the word handed over and of a sector line. Assumes nothing.
-use mathlib.Core.Path.{_≡_, refl, sym, ap, ap₂, _∙_}
+use mathlib.Core.Path.{_≡_, refl, sym, ap, _∙_}
 use mathlib.Core.Bool.{Bool, true, false, not, _&&_}
-use mathlib.Core.List.{List, _++_, append-assoc}
+use mathlib.Core.List.{List, _++_}
 use Prim.Native.Nat.{ℕ, _+_, _-_, _≤_, _<_}
 use native.Mathlib.Nat.{add-zero}
 use native.Mathlib.Omega.{arith}
 use lib.Dec.{leb, ltb, eqb}
-use lib.ListN.{length, take, drop, getD, take-append-drop, replicate, length-replicate, length-append, length-take, length-drop}
-use lib.Seq.{take-at, take-append-add, length-take-le}
+use lib.ListN.{length, take, drop, getD, take-append-drop}
 use borrow.Rule.Slice.PartMut.{putMid, midOf}
 use borrow.Author.Tests.{eq-eqb, ne-eqb, eqb-true, lt-ltb, le-ltb, ltb-true, ltb-false, leb-true, le-leb, not-true, not-false}
 use Rattle.laws.specs.Bytes.{inverted}
 use Rattle.laws.specs.Choice.{if_then_else_}
 use Rattle.laws.proofs.Bytes.{length-inverted, getD-inverted}
-use Rattle.laws.proofs.Parts.{put-rest, mid-rest, put-part}
+use Rattle.laws.proofs.Parts.{put-part}
 use Rattle.laws.proofs.Window.{length-window, getD-window, length-put, getD-put}
 use Rattle.laws.proofs.Choice.{if-case, if-true, if-false, then-same, left-true, right-true, not-of-true, not-of-false}
 use Rattle.sector.specs.Address.{valid}
 use Rattle.sector.specs.Calls.{seal-sector}
+use Rattle.sector.specs.Layout.{agrees}
 use Rattle.sector.specs.declared.Address.{Address}
 use Rattle.chip.specs.Calls as calls
 use Rattle.chip.specs.declared.Chip.{Chip}
 use Rattle.chip.specs.declared.WordTold.{WordTold}
 use Rattle.chip.specs.declared.Word.the-variants.{Handed, Refused}
-use Rattle.script.specs.Answers.{Answered, unchanged, refused, of-told, word, word-refused, unsealed, disc-number, brought, disc}
-use Rattle.script.specs.Damage.{inside, scratched}
+use Rattle.script.specs.Answers.{unchanged, refused, word, word-refused, disc-number, brought, disc, said}
+use Rattle.script.specs.Disc.{inside, scratched, unsealed, arriving}
 use Rattle.script.specs.declared.call.Answer.{Answer}
 use Rattle.script.specs.declared.disc.Damage.{Damage}
+use Rattle.script.specs.declared.disc.Carried.{Carried}
 
 -- the host word, by whether one is handed over
 module _ (c : Chip) (ring : List ℕ) (t : WordTold) (e : t ≡ calls.word-told c ring) where
@@ -45,54 +46,73 @@ module _ (c : Chip) (ring : List ℕ) (t : WordTold) (e : t ≡ calls.word-told 
       ap (λ v. record { opened = true; chip = t .chip; number = calls.word-number v; out = calls.word-value v }) (sym q)
       ∙ ap of-word e
 
--- a sector line: its number, by the tests in their order: the buffer's size, the fill, the address, the chip
-module _ (c : Chip) (ring s : List ℕ) (a : Address) (byte : ℕ) where
-  pub number-size : (length s ≡ 2352 → ⊥) → 1 ≡ disc-number c ring s a byte
+-- a sector line: its number, by the tests in their order: the buffer's size, the fill, the address, the form, the chip
+module _ (c : Chip) (d : Carried) (ring s : List ℕ) (a : Address) (byte : ℕ) where
+  pub number-size : (length s ≡ 2352 → ⊥) → 1 ≡ disc-number c d ring s a byte
   unfolding disc-number
   number-size h = sym (if-true _ _ _ (not-of-false _ (ne-eqb _ _ h)))
 
   module _ (h : length s ≡ 2352) where
-    pub number-fill : 255 < byte → 3 ≡ disc-number c ring s a byte
+    pub number-fill : 255 < byte → 3 ≡ disc-number c d ring s a byte
     unfolding disc-number
     number-fill k = sym (if-false _ _ _ (not-of-true _ (eq-eqb _ _ h)) ∙ if-true _ _ _ (lt-ltb _ _ k))
 
-    module _ (k : byte ≤ 255) (v : Bool) (e : v ≡ valid a) where
-      pub number-address : not v ≡ true → 3 ≡ disc-number c ring s a byte
+    module _ (k : byte ≤ 255) where
+      pub number-address : valid a ≡ false → 3 ≡ disc-number c d ring s a byte
       unfolding disc-number
       number-address f =
-          sym (if-false _ _ _ (not-of-true _ (eq-eqb _ _ h)) ∙ if-false _ _ _ (le-ltb _ _ k) ∙ if-true _ _ _ (ap not (sym e) ∙ f))
+          sym (if-false _ _ _ (not-of-true _ (eq-eqb _ _ h)) ∙ if-false _ _ _ (le-ltb _ _ k) ∙ if-true _ _ _ (not-of-false _ f))
 
-      pub number-chip : not v ≡ false → calls.sector-number c ring s ≡ disc-number c ring s a byte
-      unfolding disc-number
-      number-chip t =
-          sym (if-false _ _ _ (not-of-true _ (eq-eqb _ _ h)) ∙ if-false _ _ _ (le-ltb _ _ k) ∙ if-false _ _ _ (ap not (sym e) ∙ t))
+      module _ (v : valid a ≡ true) where
+        pub number-form : agrees (d .kind) (d .subheader) ≡ false → 3 ≡ disc-number c d ring s a byte
+        unfolding disc-number
+        number-form f =
+            sym (if-false _ _ _ (not-of-true _ (eq-eqb _ _ h)) ∙ if-false _ _ _ (le-ltb _ _ k) ∙ if-false _ _ _ (not-of-true _ v) ∙ if-true _ _ _ (not-of-false (agrees (d .kind) (d .subheader)) f))
 
-  -- what holds of a line that is not refused: its buffer is a sector's, its fill a byte, and its address one
-  pub admitted : (n : ℕ) → n ≡ disc-number c ring s a byte → n ≡ 0 → (length s ≡ 2352) × ((byte ≤ 255) × (valid a ≡ true))
+        pub number-chip : agrees (d .kind) (d .subheader) ≡ true → calls.sector-number c ring s ≡ disc-number c d ring s a byte
+        unfolding disc-number
+        number-chip t =
+            sym (if-false _ _ _ (not-of-true _ (eq-eqb _ _ h)) ∙ if-false _ _ _ (le-ltb _ _ k) ∙ if-false _ _ _ (not-of-true _ v) ∙ if-false _ _ _ (not-of-true (agrees (d .kind) (d .subheader)) t))
+
+  -- 3 for the form, whatever fill and address are
+  pub number-other : length s ≡ 2352 → agrees (d .kind) (d .subheader) ≡ false → disc-number c d ring s a byte ≡ 3
+  unfolding disc-number
+  number-other h f =
+      if-false _ _ _ (not-of-true _ (eq-eqb _ _ h))
+      ∙ if-case (λ (n : ℕ). n ≡ 3) (ltb 255 byte) 3 _ (λ _. refl)
+      (λ _. if-case (λ (n : ℕ). n ≡ 3) (not (valid a)) 3 _ (λ _. refl) (λ _. if-true _ _ _ (not-of-false (agrees (d .kind) (d .subheader)) f)))
+
+  -- what holds of a line that is not refused: its buffer is a sector's, its fill a byte, its address one, and its form that of its kind
+  abbrev Admitted : Type 0
+  Admitted = (length s ≡ 2352) × ((byte ≤ 255) × ((valid a ≡ true) × (agrees (d .kind) (d .subheader) ≡ true)))
+
+  pub admitted : (n : ℕ) → n ≡ disc-number c d ring s a byte → n ≡ 0 → Admitted
   unfolding disc-number
   admitted n e z =
-      if-case (λ (m : ℕ). m ≡ 0 → (length s ≡ 2352) × ((byte ≤ 255) × (valid a ≡ true))) (not (eqb (length s) 2352)) 1 _
+      if-case (λ (m : ℕ). m ≡ 0 → Admitted) (not (eqb (length s) 2352)) 1 _
       (λ t w. absurd (omega (arith, w)))
-      (λ t. if-case (λ (m : ℕ). m ≡ 0 → (length s ≡ 2352) × ((byte ≤ 255) × (valid a ≡ true))) (ltb 255 byte) 3 _
+      (λ t. if-case (λ (m : ℕ). m ≡ 0 → Admitted) (ltb 255 byte) 3 _
       (λ u w. absurd (omega (arith, w)))
-      (λ u. if-case (λ (m : ℕ). m ≡ 0 → (length s ≡ 2352) × ((byte ≤ 255) × (valid a ≡ true))) (not (valid a)) 3 _
+      (λ u. if-case (λ (m : ℕ). m ≡ 0 → Admitted) (not (valid a)) 3 _
       (λ v w. absurd (omega (arith, w)))
-      (λ v w. (eqb-true _ _ (not-false _ t), (ltb-false _ _ u, not-false _ v)))))
+      (λ v. if-case (λ (m : ℕ). m ≡ 0 → Admitted) (not (agrees (d .kind) (d .subheader))) 3 _
+      (λ x w. absurd (omega (arith, w)))
+      (λ x w. (eqb-true _ _ (not-false _ t), (ltb-false _ _ u, (not-false _ v, not-false (agrees (d .kind) (d .subheader)) x)))))))
       (sym e ∙ z)
 
   -- refused, and accepted
-  module _ (n : ℕ) (e : n ≡ disc-number c ring s a byte) where
-    pub disc-not : (d : Damage) → (n ≡ 0 → ⊥) → unchanged ring s (refused true c n) ≡ disc c d ring s a byte
+  module _ (n : ℕ) (e : n ≡ disc-number c d ring s a byte) where
+    pub disc-not : (n ≡ 0 → ⊥) → unchanged ring s (refused true c n) ≡ disc c d ring s a byte
     unfolding disc
-    disc-not d z =
+    disc-not z =
         ap (λ (m : ℕ). unchanged ring s (refused true c m)) e
-        ∙ sym (if-false _ _ _ (ne-eqb _ _ (λ (q : disc-number c ring s a byte ≡ 0). z (e ∙ q))))
+        ∙ sym (if-false _ _ _ (ne-eqb _ _ (λ (q : disc-number c d ring s a byte ≡ 0). z (e ∙ q))))
 
-    module _ (d : Damage) (z : n ≡ 0) (l s′ t : List ℕ) (u : l ≡ unsealed byte) (p : s′ ≡ seal-sector l a) (q : t ≡ scratched d s′) where
+    module _ (z : n ≡ 0) (l s′ t : List ℕ) (u : l ≡ unsealed byte) (p : s′ ≡ seal-sector l a (d .kind) (d .subheader)) (q : t ≡ scratched (d .damage) s′) where
       pub disc-done : brought c ring t ≡ disc c d ring s a byte
-      unfolding disc
+      unfolding disc arriving
       disc-done =
-          ap (brought c ring) (q ∙ ap (scratched d) (p ∙ ap (λ (x : List ℕ). seal-sector x a) u))
+          ap (brought c ring) (q ∙ ap (scratched (d .damage)) (p ∙ ap (λ (x : List ℕ). seal-sector x a (d .kind) (d .subheader)) u))
           ∙ sym (if-true _ _ _ (eq-eqb _ _ (sym e ∙ z)))
 
 -- a sector that arrives damaged: as long as it was, and as the code leaves it
@@ -148,37 +168,11 @@ scratched-none from s =
     (λ _. ap (λ (n : ℕ). take from s ++ drop n s) (add-zero from) ∙ take-append-drop from s)
     (λ _. refl)
 
--- the three parts of a bench sector, put one behind the other
-pub laid : (s a b z : List ℕ) (byte : ℕ) → a ≡ replicate 16 0 → b ≡ replicate 2048 byte → z ≡ replicate 288 0 →
-    take 2064 (take 16 (a ++ drop 16 s) ++ (b ++ drop 2064 (a ++ drop 16 s))) ++ z ≡ unsealed byte
-unfolding unsealed
-laid s a b z byte ea eb ez =
-    let la : length a ≡ 16 = ap length ea ∙ length-replicate {A = ℕ} 16 0 in
-    let lb : length b ≡ 2048 = ap length eb ∙ length-replicate {A = ℕ} 2048 byte in
-    ap (λ (l : List ℕ). take 2064 (l ++ (b ++ drop 2064 (a ++ drop 16 s))) ++ z) (take-at a (drop 16 s) 16 la)
-    ∙ ap (λ (n : ℕ). take (n + 2048) (a ++ (b ++ drop 2064 (a ++ drop 16 s))) ++ z) (sym la)
-    ∙ ap (λ (l : List ℕ). l ++ z) (take-append-add a (b ++ drop 2064 (a ++ drop 16 s)) 2048)
-    ∙ ap (λ (l : List ℕ). (a ++ l) ++ z) (take-at b (drop 2064 (a ++ drop 16 s)) 2048 lb)
-    ∙ append-assoc a b z
-    ∙ ap (λ (l : List ℕ). l ++ (b ++ z)) ea
-    ∙ ap (λ (l : List ℕ). replicate 16 0 ++ (l ++ z)) eb
-    ∙ ap (λ (l : List ℕ). replicate 16 0 ++ (replicate 2048 byte ++ l)) ez
+-- a line that says something, in range or not
+pub said-not : (c : Chip) (b : Bool) → not b ≡ true → refused true c 3 ≡ said c b
+unfolding said
+said-not c b e = sym (ap (λ (x : Bool). record { opened = true; chip = c; number = if x then 0 else 3; out = 0 }) (not-true b e))
 
--- as three calls leave them that fill the parts of one buffer
-module _ (s a b z : List ℕ) (byte : ℕ) where
-  pub filled : length s ≡ 2352 → a ≡ replicate (length (take 16 s)) 0 → b ≡ replicate (length (midOf 16 2048 (a ++ drop 16 s))) byte
-      → z ≡ replicate (length (midOf 2064 (length (putMid 16 2048 (a ++ drop 16 s) b) - 2064) (putMid 16 2048 (a ++ drop 16 s) b))) 0
-      → putMid 2064 (length (putMid 16 2048 (a ++ drop 16 s) b) - 2064) (putMid 16 2048 (a ++ drop 16 s) b) z ≡ unsealed byte
-  filled hs ea eb ez =
-      let l16 : length (take 16 s) ≡ 16 = simp length-take (omega arith) in
-      let ea′ : a ≡ replicate 16 0 = ea ∙ ap (λ (n : ℕ). replicate n 0) l16 in
-      let la : length a ≡ 16 = ap length ea′ ∙ length-replicate {A = ℕ} 16 0 in
-      let lw : length (a ++ drop 16 s) ≡ 2352 = simp (length-append, length-drop) (omega arith) in
-      let l2048 : length (midOf 16 2048 (a ++ drop 16 s)) ≡ 2048 = length-take-le 2048 (drop 16 (a ++ drop 16 s)) (simp length-drop (omega arith)) in
-      let eb′ : b ≡ replicate 2048 byte = eb ∙ ap (λ (n : ℕ). replicate n byte) l2048 in
-      let lb : length b ≡ 2048 = ap length eb′ ∙ length-replicate {A = ℕ} 2048 byte in
-      let em : putMid 16 2048 (a ++ drop 16 s) b ≡ take 16 (a ++ drop 16 s) ++ (b ++ drop 2064 (a ++ drop 16 s)) = put-part 16 2048 (a ++ drop 16 s) b in
-      let lm : length (putMid 16 2048 (a ++ drop 16 s) b) ≡ 2352 = ap length em ∙ simp (length-append, length-take, length-drop) (omega arith) in
-      let l288 = ap length (mid-rest 2064 (putMid 16 2048 (a ++ drop 16 s) b)) ∙ length-drop 2064 (putMid 16 2048 (a ++ drop 16 s) b) in
-      let ez′ : z ≡ replicate 288 0 = ez ∙ ap (λ (n : ℕ). replicate n 0) (l288 ∙ ap (λ (n : ℕ). n - 2064) lm) in
-      put-rest 2064 (putMid 16 2048 (a ++ drop 16 s) b) z ∙ ap (λ (l : List ℕ). take 2064 l ++ z) em ∙ laid s a b z byte ea′ eb′ ez′
+pub said-so : (c : Chip) (b : Bool) → not b ≡ false → refused true c 0 ≡ said c b
+unfolding said
+said-so c b e = sym (ap (λ (x : Bool). record { opened = true; chip = c; number = if x then 0 else 3; out = 0 }) (not-false b e))

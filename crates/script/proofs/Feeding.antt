@@ -16,7 +16,7 @@ use Rattle.laws.specs.Choice.{if_then_else_}
 use Rattle.laws.proofs.Choice.{if-true, if-false}
 use Rattle.laws.proofs.Ends.{take-put, drop-put}
 use Rattle.syntax.specs.Print.{room, over}
-use Rattle.script.specs.Bench.{Left, ran, reply, damage-left, count, text, told}
+use Rattle.script.specs.Bench.{Left, ran, reply, carried-left, count, text, told}
 use Rattle.script.specs.Feed.{Progress, with-line, fed, fed-left}
 use Rattle.script.specs.declared.Bench.{Bench}
 use Rattle.script.specs.declared.Ran.{Ran}
@@ -102,7 +102,7 @@ module _ (bytes : ℕ) (start : Progress) (whole out₀ : List ℕ) (b : Bench) 
       let t = text (reply b m s line .answer) (count b) in
       let out′ = putMid size (length out - size) out o in
       let lw : length w ≡ length out - size = ap length ew ∙ length-drop size out in
-      let et : record { result = R; memory = m′; sector = s′; out = o } ≡ told (reply b m s line) (damage-left b line (reply b m s line .answer .number)) (count b) w
+      let et : record { result = R; memory = m′; sector = s′; out = o } ≡ told (reply b m s line) (carried-left b line (reply b m s line .answer .number)) (count b) w
       = e ∙ ran-is b m s line w (omega (arith, lw, hr)) in
       let ez : R .size ≡ length t = ap (λ (x : Left Ran). x .result .size) et in
       let eo : o ≡ over t (drop size out) = ap (λ (x : Left Ran). x .out) et ∙ ap (over t) ew in
@@ -111,7 +111,7 @@ module _ (bytes : ℕ) (start : Progress) (whole out₀ : List ℕ) (b : Bench) 
       = ap length el ∙ length-take-le (end - taken) (drop taken whole) (let ld : length (drop taken whole) ≡ length whole - taken = length-drop taken whole in omega (arith, ld, he)) in
       let en : end + 1 ≡ taken + (length line + 1) = omega (arith, ll, ht) in
       let ed : now-at (R .bench) m′ s′ out′ (size + R .size) (end + 1) ≡ with-line (now-at b m s out size taken) line
-      = ap (λ (x : Left Ran). progress x (take (size + R .size) out′) (end + 1)) et ∙ ap₂ (progress (told (reply b m s line) (damage-left b line (reply b m s line .answer .number)) (count b) w)) ep en in
+      = ap (λ (x : Left Ran). progress x (take (size + R .size) out′) (end + 1)) et ∙ ap₂ (progress (told (reply b m s line) (carried-left b line (reply b m s line .answer .number)) (count b) w)) ep en in
       record {
         leads =
             ap (λ (d : Progress). fed bytes d [] (drop (end + 1) whole)) (ed ∙ ap (with-line (now-at b m s out size taken)) el)

@@ -3,11 +3,11 @@ use Prim.Native.Nat.{ℕ, _*_}
 use mathlib.Core.Bool.{Bool, true, false, not}
 use mathlib.Core.List.{List, _++_}
 use lib.Dec.{ltb, eqb}
-use lib.ListN.{length, take, drop, replicate}
+use lib.ListN.{length, take, drop}
 use Rattle.laws.specs.Choice.{if_then_else_}
 use Rattle.sector.specs.Address.{valid}
-use Rattle.sector.specs.Calls.{seal-sector}
 use Rattle.sector.specs.Judge.{why}
+use Rattle.sector.specs.Layout.{agrees}
 use Rattle.sector.specs.declared.Address.{Address}
 use Rattle.chip.specs.Chip.{opened}
 use Rattle.chip.specs.Calls as calls
@@ -15,10 +15,10 @@ use Rattle.chip.specs.declared.Chip.{Chip}
 use Rattle.chip.specs.declared.Told.{Told}
 use Rattle.chip.specs.declared.Word.{Word}
 use Rattle.syntax.specs.declared.line.Line.{Line}
-use Rattle.syntax.specs.declared.line.Line.the-variants.{Malformed, Open, Plain, Look, Take, Disc, Scratch}
-use Rattle.script.specs.Damage.{inside, scratched}
+use Rattle.syntax.specs.declared.line.Line.the-variants.{Malformed, Open, Plain, Look, Take, Disc, Scratch, SetKind, SetSubheader}
+use Rattle.script.specs.Disc.{inside, known, four-bytes, arriving}
 use Rattle.script.specs.declared.call.Answer.{Answer}
-use Rattle.script.specs.declared.disc.Damage.{Damage}
+use Rattle.script.specs.declared.disc.Carried.{Carried}
 use Rattle.syntax.specs.declared.print.Shown.{Shown}
 
 -- a refusal: its number, out 0, and the chip there was
@@ -54,10 +54,6 @@ word c ring =
 abbrev pub look : Chip → List ℕ → Answer
 look c ring = record { opened = true; chip = c; number = 0; out = length (calls.looked c ring) }
 
--- a bench sector before it is sealed: every user byte equal to the fill; all else is written by sealing, and 0 until then
-unfoldable pub unsealed : ℕ → List ℕ
-unsealed byte = replicate 16 0 ++ (replicate 2048 byte ++ replicate 288 0)
-
 -- what a call leaves: its answer, the memory that it was lent, and the sector buffer
 pub record Answered : Type 0 where
   pub answer : Answer
@@ -68,13 +64,14 @@ pub record Answered : Type 0 where
 abbrev pub unchanged : List ℕ → List ℕ → Answer → Answered
 unchanged m s a = record { answer = a; memory = m; sector = s }
 
--- the reply number of a sector line, before a byte is written: 1 for a buffer of another size, 3 for the fill or the address, then the chip's own,
--- which looks at no more of the buffer than its length
-unfoldable pub disc-number : Chip → List ℕ → List ℕ → Address → ℕ → ℕ
-disc-number c ring s a byte =
+-- the reply number of a sector line, before a byte is written: 1 for a buffer of another size, 3 for the fill, the address, or a subheader of the other
+-- form, then the chip's own, which looks at no more of the buffer than its length
+unfoldable pub disc-number : Chip → Carried → List ℕ → List ℕ → Address → ℕ → ℕ
+disc-number c d ring s a byte =
     if not (eqb (length s) 2352) then 1
     else if ltb 255 byte then 3
     else if not (valid a) then 3
+    else if not (agrees (d .kind) (d .subheader)) then 3
     else calls.sector-number c ring s
 
 -- a sector that is given to the chip, and stays in the buffer
@@ -82,26 +79,26 @@ abbrev pub brought : Chip → List ℕ → List ℕ → Answered
 brought c ring s = record { answer = of-told (calls.sector-told c ring s); memory = calls.sector-ring c ring s; sector = s }
 
 -- a sector line: the sector is sealed in the buffer, damaged on its way and brought, and a refusal leaves memory and buffer as they were
-unfoldable pub disc : Chip → Damage → List ℕ → List ℕ → Address → ℕ → Answered
+unfoldable pub disc : Chip → Carried → List ℕ → List ℕ → Address → ℕ → Answered
 disc c d ring s a byte =
-    if eqb (disc-number c ring s a byte) 0 then brought c ring (scratched d (seal-sector (unsealed byte) a))
-    else unchanged ring s (refused true c (disc-number c ring s a byte))
+    if eqb (disc-number c d ring s a byte) 0 then brought c ring (arriving d a byte)
+    else unchanged ring s (refused true c (disc-number c d ring s a byte))
 
--- a scratch line: 3 for one that is not inside a sector
-unfoldable pub scratching : Chip → ℕ → ℕ → Answer
-scratching c from count =
-    if inside from count then record { opened = true; chip = c; number = 0; out = 0 }
-    else refused true c 3
+-- a line that says something of the next sectors: 3 where its numbers are out of range
+unfoldable pub said : Chip → Bool → Answer
+said c in-range = record { opened = true; chip = c; number = if in-range then 0 else 3; out = 0 }
 
 -- the calls of an open chip: only an accepted sector changes the ring and the buffer
-unfoldable pub called : Chip → Damage → List ℕ → List ℕ → Line → Answered
+unfoldable pub called : Chip → Carried → List ℕ → List ℕ → Line → Answered
 called c d ring s Malformed = unchanged ring s (refused true c 2)
 called c d ring s (Open n) = unchanged ring s (opening true c n)
 called c d ring s (Plain call) = unchanged ring s (of-told (calls.called c call))
 called c d ring s Look = unchanged ring s (look c ring)
 called c d ring s Take = unchanged ring s (word c ring)
 called c d ring s (Disc a byte) = disc c d ring s a byte
-called c d ring s (Scratch from count) = unchanged ring s (scratching c from count)
+called c d ring s (Scratch from count) = unchanged ring s (said c (inside from count))
+called c d ring s (SetKind k) = unchanged ring s (said c (known k))
+called c d ring s (SetSubheader f h m i) = unchanged ring s (said c (four-bytes f h m i))
 
 -- before an accepted opening every other call is 5
 unfoldable pub closed : Chip → Line → Answer
@@ -112,6 +109,8 @@ closed c Look = refused false c 5
 closed c Take = refused false c 5
 closed c (Disc a byte) = refused false c 5
 closed c (Scratch from count) = refused false c 5
+closed c (SetKind k) = refused false c 5
+closed c (SetSubheader f h m i) = refused false c 5
 
 -- the ring of the open chip is the start of the lent memory, as long as its N blocks
 abbrev pub size : Chip → ℕ
@@ -122,7 +121,7 @@ abbrev pub with-rest : Answered → List ℕ → Answered
 with-rest a rest = record { answer = a .answer; memory = a .memory ++ rest; sector = a .sector }
 
 -- with no chip open, and with one
-unfoldable pub answered : Bool → Chip → Damage → List ℕ → List ℕ → Line → Answered
+unfoldable pub answered : Bool → Chip → Carried → List ℕ → List ℕ → Line → Answered
 answered o c d m s line =
     if not o then unchanged m s (closed c line)
     else with-rest (called c d (take (size c) m) s line) (drop (size c) m)

@@ -7,9 +7,9 @@ use lib.ListN.{length}
 use Rattle.laws.specs.Choice.{if_then_else_}
 use Rattle.syntax.specs.Print.{room, over}
 use Rattle.script.specs.Answers.{Answered}
-use Rattle.script.specs.Bench.{Left, reply, damage-left, count, text, after}
+use Rattle.script.specs.Bench.{Left, reply, carried-left, count, text, after}
 use Rattle.script.specs.declared.Bench.{Bench}
-use Rattle.script.specs.declared.disc.Damage.{Damage}
+use Rattle.script.specs.declared.disc.Carried.{Carried}
 use Rattle.script.specs.declared.lines.Fed.{Fed}
 
 -- what lines leave: the bench, the ring's memory, the sector buffer, all that was printed, and how many bytes of the text they took
@@ -25,10 +25,10 @@ abbrev pub begun : Bench → List ℕ → List ℕ → Progress
 begun b m s = record { bench = b; memory = m; sector = s; printed = []; taken = 0 }
 
 -- one line more: its answer, and the bytes that it took with its end
-abbrev pub with-answer : Progress → Answered → Damage → ℕ → Progress
-with-answer d a damage size =
+abbrev pub with-answer : Progress → Answered → Carried → ℕ → Progress
+with-answer d a carried size =
     record {
-      bench = after (a .answer) damage (count (d .bench));
+      bench = after (a .answer) carried (count (d .bench));
       memory = a .memory;
       sector = a .sector;
       printed = d .printed ++ text (a .answer) (count (d .bench));
@@ -38,7 +38,7 @@ with-answer d a damage size =
 abbrev pub with-line : Progress → List ℕ → Progress
 with-line d line =
     let a = reply (d .bench) (d .memory) (d .sector) line in
-    with-answer d a (damage-left (d .bench) line (a .answer .number)) (length line + 1)
+    with-answer d a (carried-left (d .bench) line (a .answer .number)) (length line + 1)
 
 -- every line that has an end, in order, while there is room for its answer in so many bytes; `line` is what has come of the present one
 unfoldable pub fed : ℕ → Progress → List ℕ → List ℕ → Progress

@@ -1,17 +1,20 @@
 // What the bench answers to a call: the chip's answer, with the host word and the look as numbers.
-use crate::disc::Damage;
+use crate::disc::Carried;
+use crate::disc::four_bytes;
 use crate::disc::inside;
+use crate::disc::known;
 use crate::disc::scratch;
-use crate::fill::unsealed;
 use chip::Chip;
 use chip::Told;
 use chip::Word;
 use numbers::least_length;
 use sector::Address;
+use sector::agrees;
+use slices::fill;
 use syntax::line::Line;
 use syntax::print::Shown;
 ghost use mathlib.Core.Path.{_≡_};
-ghost use Rattle.script.specs.Answers.{refused, of-told, opening, word, word-refused, look, disc-number, disc, scratching, called, closed, answered, shown};
+ghost use Rattle.script.specs.Answers.{refused, of-told, opening, word, word-refused, look, disc-number, disc, said, called, closed, answered, shown};
 
 // Whether a chip is open, the chip, the reply number and the result that is printed.
 pub struct Answer {
@@ -123,8 +126,15 @@ fn look(chip: Chip, ring: &[u8]) -> Answer
 }
 
 // The reply number of a sector line, before a byte is written.
-fn disc_number(chip: Chip, ring: &[u8], sector: &[u8], address: Address, byte: u16) -> u8
-    ensures { λ r. ⌜ r ≡ disc-number chip (now (ring .entry)) (now (sector .entry)) address byte ⌝ }
+fn disc_number(
+    chip: Chip,
+    carried: Carried,
+    ring: &[u8],
+    sector: &[u8],
+    address: Address,
+    byte: u16,
+) -> u8
+    ensures { λ r. ⌜ r ≡ disc-number chip carried (now (ring .entry)) (now (sector .entry)) address byte ⌝ }
 {
     if sector.len() != 2352 {
         return 1;
@@ -135,50 +145,48 @@ fn disc_number(chip: Chip, ring: &[u8], sector: &[u8], address: Address, byte: u
     if !address.valid() {
         return 3;
     }
+    if !agrees(carried.kind, carried.subheader) {
+        return 3;
+    }
     chip.sector_number(ring, sector)
 }
 
-// A sector sealed at the address, every user byte equal to the fill, as it arrives.
+// A sector sealed at the address as the kind that is carried, every user byte equal to the fill, as it arrives.
 fn disc(
     chip: Chip,
-    damage: Damage,
+    carried: Carried,
     ring: &mut [u8],
     sector: &mut [u8],
     address: Address,
     byte: u16,
 ) -> Answer
     ensures { λ r. ⌜ record { answer = r; memory = now (ring .exit); sector = now (sector .exit) }
-        ≡ disc chip damage (now (ring .entry)) (now (sector .entry)) address byte ⌝ }
+        ≡ disc chip carried (now (ring .entry)) (now (sector .entry)) address byte ⌝ }
 {
-    let number = disc_number(chip, ring, sector, address, byte);
+    let number = disc_number(chip, carried, ring, sector, address, byte);
     if number != 0 {
         return refused(true, chip, number);
     }
-    unsealed(sector, byte as u8);
-    sector::seal(sector, address);
-    scratch(sector, damage);
+    fill(sector, byte as u8);
+    sector::seal(sector, address, carried.kind, carried.subheader);
+    scratch(sector, carried.damage);
     told(chip.sector(ring, sector))
 }
 
-// What the next sector arrives with is said, or refused.
-fn scratching(chip: Chip, from: u16, count: u16) -> Answer
-    ensures { λ r. ⌜ r ≡ scratching chip from count ⌝ }
+// A line that says something of the next sectors.
+fn said(chip: Chip, in_range: bool) -> Answer
+    ensures { λ r. ⌜ r ≡ said chip in_range ⌝ }
 {
-    if !inside(from, count) {
+    if !in_range {
         return refused(true, chip, 3);
     }
-    Answer {
-        opened: true,
-        chip: chip,
-        number: 0,
-        out: 0,
-    }
+    refused(true, chip, 0)
 }
 
 // The calls of an open chip.
-fn called(chip: Chip, damage: Damage, ring: &mut [u8], sector: &mut [u8], line: Line) -> Answer
+fn called(chip: Chip, carried: Carried, ring: &mut [u8], sector: &mut [u8], line: Line) -> Answer
     ensures { λ r. ⌜ record { answer = r; memory = now (ring .exit); sector = now (sector .exit) }
-        ≡ called chip damage (now (ring .entry)) (now (sector .entry)) line ⌝ }
+        ≡ called chip carried (now (ring .entry)) (now (sector .entry)) line ⌝ }
 {
     match line {
         Line::Malformed => refused(true, chip, 2),
@@ -186,8 +194,10 @@ fn called(chip: Chip, damage: Damage, ring: &mut [u8], sector: &mut [u8], line: 
         Line::Plain(call) => told(chip.call(call)),
         Line::Look => look(chip, ring),
         Line::Take => host_word(chip, ring),
-        Line::Disc(address, byte) => disc(chip, damage, ring, sector, address, byte),
-        Line::Scratch(from, count) => scratching(chip, from, count),
+        Line::Disc(address, byte) => disc(chip, carried, ring, sector, address, byte),
+        Line::Scratch(from, count) => said(chip, inside(from, count)),
+        Line::SetKind(kind) => said(chip, known(kind)),
+        Line::SetSubheader(f, c, s, i) => said(chip, four_bytes(f, c, s, i)),
     }
 }
 
@@ -203,6 +213,8 @@ fn closed(chip: Chip, line: Line) -> Answer
         Line::Take => refused(false, chip, 5),
         Line::Disc(_, _) => refused(false, chip, 5),
         Line::Scratch(_, _) => refused(false, chip, 5),
+        Line::SetKind(_) => refused(false, chip, 5),
+        Line::SetSubheader(_, _, _, _) => refused(false, chip, 5),
     }
 }
 
@@ -210,18 +222,18 @@ fn closed(chip: Chip, line: Line) -> Answer
 pub(crate) fn run(
     opened: bool,
     chip: Chip,
-    damage: Damage,
+    carried: Carried,
     memory: &mut [u8],
     sector: &mut [u8],
     line: Line,
 ) -> Answer
     ensures { λ r. ⌜ record { answer = r; memory = now (memory .exit); sector = now (sector .exit) }
-        ≡ answered opened chip damage (now (memory .entry)) (now (sector .entry)) line ⌝ }
+        ≡ answered opened chip carried (now (memory .entry)) (now (sector .entry)) line ⌝ }
 {
     if !opened {
         return closed(chip, line);
     }
     let place = chip.place;
     let size = least_length(place.n as usize * 2560, memory.len());
-    called(chip, damage, &mut memory[..size], sector, line)
+    called(chip, carried, &mut memory[..size], sector, line)
 }

@@ -2,10 +2,10 @@
 // (paper 01, "Bench cases").
 mod call;
 mod disc;
-mod fill;
 mod lines;
 
 use chip::Chip;
+pub use disc::Carried;
 pub use disc::Damage;
 pub use lines::Fed;
 pub use lines::feed;
@@ -15,11 +15,11 @@ ghost use mathlib.Core.Path.{_≡_};
 ghost use Rattle.script.specs.Bench.{started, ran};
 ghost use Rattle.syntax.specs.Print.{longest};
 
-// Whether a chip is open, the chip, what the next sector arrives with, and how many lines there have been.
+// Whether a chip is open, the chip, what sectors carry, and how many lines there have been.
 pub struct Bench {
     pub opened: bool,
     pub chip: Chip,
-    pub damage: Damage,
+    pub carried: Carried,
     pub lines: u64,
 }
 
@@ -40,7 +40,7 @@ impl Bench {
         Bench {
             opened: false,
             chip: chip,
-            damage: disc::none(),
+            carried: disc::at_first(),
             lines: 0,
         }
     }
@@ -61,9 +61,9 @@ impl Bench {
         }
         let parsed = syntax::line::parse(line);
         let chip = self.chip;
-        let damage = self.damage;
-        let answer = call::run(self.opened, chip, damage, memory, sector, parsed);
-        let left = disc::damage_after(damage, parsed, answer.number);
+        let carried = self.carried;
+        let answer = call::run(self.opened, chip, carried, memory, sector, parsed);
+        let left = disc::carried_after(carried, parsed, answer.number);
         let n = std::num::wrapping_add_u64(self.lines, 1);
         let size = syntax::print::print(out, call::shown(answer, n));
         let next = answer.chip;
@@ -71,7 +71,7 @@ impl Bench {
             bench: Bench {
                 opened: answer.opened,
                 chip: next,
-                damage: left,
+                carried: left,
                 lines: n,
             },
             size: size,

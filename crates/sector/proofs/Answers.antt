@@ -1,6 +1,6 @@
 -- The cases of what the calls answer, as the code's returns have them, and what holds of an accepted call. Assumes nothing.
 use mathlib.Core.Path.{_≡_, refl, ap, _∙_}
-use mathlib.Core.Bool.{Bool, true, false, not}
+use mathlib.Core.Bool.{Bool, true, false, not, _&&_}
 use mathlib.Core.List.{List}
 use Prim.Native.Nat.{ℕ}
 use lib.ListN.{length}
@@ -8,16 +8,17 @@ use lib.Dec.{eqb}
 use native.Mathlib.Omega.{arith}
 use borrow.Author.Tests.{eq-eqb, ne-eqb, eqb-true, eqb-false}
 use Rattle.laws.specs.Numbers.{weight}
-use Rattle.parity.specs.Parity.{parity-holds}
 use Rattle.reply.specs.Reply.{refusal, answer}
 use Rattle.scramble.specs.Scramble.{scrambled}
 use Rattle.sector.specs.declared.Address.{Address}
 use Rattle.sector.specs.declared.Judgement.{Judgement}
 use Rattle.sector.specs.declared.Judged.{Judged}
+use Rattle.sector.specs.declared.Subheader.{Subheader}
 use Rattle.sector.specs.Address.{valid}
+use Rattle.sector.specs.Layout.{agrees, layout, layout-read}
 use Rattle.sector.specs.Sector.{encoded, sealed}
 use Rattle.sector.specs.Judge.{sync-holds, mode-holds, edc-holds, address-holds, judgement}
-use Rattle.sector.specs.Calls.{seal-reply, seal-sector, open-reply, open-sector, refused, judge-answer, parity-reply}
+use Rattle.sector.specs.Calls.{seal-reply, seal-sector, open-reply, open-sector, refused, judge-answer, words-hold, parity-reply}
 
 -- ---- the four facts from their tests
 
@@ -37,9 +38,9 @@ same-facts i j s m e a =
 -- ---- a sector of another length is refused
 
 module _ (s : List ℕ) (a : Address) (short : length s ≡ 2352 → ⊥) where
-  pub seal-short : (refusal 1 ≡ seal-reply s a) × (s ≡ seal-sector s a)
+  pub seal-short : (k : ℕ) (h : Subheader) → (refusal 1 ≡ seal-reply s a k h) × (s ≡ seal-sector s a k h)
   unfolding seal-reply seal-sector
-  seal-short = (simp (ne-eqb (length s) 2352 short), simp (ne-eqb (length s) 2352 short))
+  seal-short k h = (simp (ne-eqb (length s) 2352 short), simp (ne-eqb (length s) 2352 short))
 
   pub judge-short : refused 1 ≡ judge-answer s a
   unfolding judge-answer
@@ -56,13 +57,14 @@ unfolding open-reply open-sector
 open-done s full = (simp (eq-eqb (length s) 2352 full), simp (eq-eqb (length s) 2352 full))
 
 module _ (s : List ℕ) (a : Address) (full : length s ≡ 2352) where
-  pub seal-out : valid a ≡ false → (refusal 3 ≡ seal-reply s a) × (s ≡ seal-sector s a)
-  unfolding seal-reply seal-sector
-  seal-out v = (simp (eq-eqb (length s) 2352 full, v), simp (eq-eqb (length s) 2352 full, v))
+  module _ (k : ℕ) (h : Subheader) where
+    pub seal-not : (valid a && agrees k h) ≡ false → (refusal 3 ≡ seal-reply s a k h) × (s ≡ seal-sector s a k h)
+    unfolding seal-reply seal-sector
+    seal-not e = (simp (eq-eqb (length s) 2352 full, e), simp (eq-eqb (length s) 2352 full, e))
 
-  pub seal-done : valid a ≡ true → (answer 0 ≡ seal-reply s a) × (scrambled (encoded a s) ≡ seal-sector s a)
-  unfolding seal-reply seal-sector sealed
-  seal-done v = (simp (eq-eqb (length s) 2352 full, v), simp (eq-eqb (length s) 2352 full, v))
+    pub seal-done : valid a ≡ true → agrees k h ≡ true → (answer 0 ≡ seal-reply s a k h) × (scrambled (encoded (layout k) a h s) ≡ seal-sector s a k h)
+    unfolding seal-reply seal-sector sealed
+    seal-done v w = (simp (eq-eqb (length s) 2352 full, v, w), simp (eq-eqb (length s) 2352 full, v, w))
 
   pub judge-out : valid a ≡ false → refused 3 ≡ judge-answer s a
   unfolding judge-answer
@@ -98,6 +100,6 @@ pub parity-short : (s : List ℕ) → (length s ≡ 2352 → ⊥) → refusal 1 
 unfolding parity-reply
 parity-short s short = simp (ne-eqb (length s) 2352 short)
 
-pub parity-done : (s : List ℕ) → length s ≡ 2352 → answer (weight (parity-holds false s) 1) ≡ parity-reply s
+pub parity-done : (s : List ℕ) → length s ≡ 2352 → answer (weight (words-hold (layout-read s) s) 1) ≡ parity-reply s
 unfolding parity-reply
 parity-done s full = simp (eq-eqb (length s) 2352 full)

@@ -7,6 +7,9 @@ use Rattle.scramble.specs.Scramble.{scrambled}
 use Rattle.scramble.proofs.Scrambled.{length-scrambled}
 use Rattle.sector.specs.declared.Address.{Address}
 use Rattle.sector.specs.declared.Judgement.{Judgement}
+use Rattle.sector.specs.declared.Subheader.{Subheader}
+use Rattle.sector.specs.declared.layout.Layout.{Layout}
+use Rattle.sector.specs.Layout.{Fits}
 use Rattle.sector.specs.Sector.{encoded, sealed}
 use Rattle.sector.specs.Judge.{judgement}
 use Rattle.sector.specs.Receive.{received}
@@ -24,6 +27,7 @@ module _ (e : Address) (s : List ℕ) where
   length-received full = length-scrambled s full
 
 -- a sector that was sealed at a is received as it was encoded there
-pub received-sealed : (e a : Address) (u : List ℕ) → length u ≡ 2352 → received e (sealed a u) ≡ record { bytes = encoded a u; judgement = judgement e (encoded a u) }
+pub received-sealed : (l : Layout) (e a : Address) (h : Subheader) (u : List ℕ) → length u ≡ 2352 → Fits l
+    → received e (sealed l a h u) ≡ record { bytes = encoded l a h u; judgement = judgement e (encoded l a h u) }
 unfolding received
-received-sealed e a u full = ap (λ (l : List ℕ). record { bytes = l; judgement = judgement e l }) (opened a u full)
+received-sealed l e a h u full f = ap (λ (x : List ℕ). record { bytes = x; judgement = judgement e x }) (opened l a h u full f)

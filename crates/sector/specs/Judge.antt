@@ -1,29 +1,38 @@
--- The judgement of a descrambled sector (paper 01, "Sectors": "Judging"; paper 02, ask 1): four facts, each of a test of its own, and what is made
--- of them. Bytes 2,068 to 2,351, zeros and parity, are not judged. Assumes nothing.
-use mathlib.Core.Bool.{Bool, false, not, _||_}
+-- The judgement of a descrambled sector (paper 01, "Sectors": "Judging"; paper 02, asks 1 and 4): four facts, each of a test of its own, and what is
+-- made of them. The bytes behind the code, zeros and parity, are not judged. Assumes nothing.
+use mathlib.Core.Bool.{Bool, false, not, _||_, _&&_}
 use mathlib.Core.List.{List}
 use Prim.Native.Nat.{ℕ, _+_}
 use lib.Dec.{eqb}
-use lib.ListN.{take, drop, getD}
+use lib.ListN.{take, drop, getD, replicate}
 use Rattle.laws.specs.Numbers.{weight}
 use Rattle.laws.specs.Same.{same}
-use Rattle.edc.specs.Edc.{edc}
 use Rattle.sector.specs.declared.Address.{Address}
 use Rattle.sector.specs.declared.Judgement.{Judgement}
+use Rattle.sector.specs.declared.layout.Layout.{Layout}
 use Rattle.sector.specs.Address.{address-bytes}
-use Rattle.sector.specs.Sector.{sync, low4}
+use Rattle.sector.specs.Layout.{layout-read}
+use Rattle.sector.specs.Sector.{sync, code-of}
 
 -- bytes 0 to 11 are the sync pattern
 unfoldable pub sync-holds : List ℕ → Bool
 sync-holds s = same (take 12 s) sync
 
--- byte 15 is mode 1
+-- byte 15 is mode 1; or it is mode 2, and the subheader's two copies are equal
 unfoldable pub mode-holds : List ℕ → Bool
-mode-holds s = eqb (getD s 15 0) 1
+mode-holds s = eqb (getD s 15 0) 1 || (eqb (getD s 15 0) 2 && same (take 4 (drop 16 s)) (take 4 (drop 20 s)))
 
--- bytes 2,064 to 2,067 are the code of the bytes before them
+-- the code that stands in a sector is that of the bytes that it covers
+unfoldable pub code-right : Layout → List ℕ → Bool
+code-right l s = same (take 4 (drop (l .code) s)) (code-of l (take (l .code) s))
+
+-- none was written: it is zero, in form 2
+unfoldable pub unwritten : Layout → List ℕ → Bool
+unwritten l s = l .optional && same (take 4 (drop (l .code) s)) (replicate 4 0)
+
+-- the EDC, by the kind that is read: the code is right, or none was written
 unfoldable pub edc-holds : List ℕ → Bool
-edc-holds s = same (take 4 (drop 2064 s)) (low4 (edc 0 (take 2064 s)))
+edc-holds s = code-right (layout-read s) s || unwritten (layout-read s) s
 
 -- bytes 12 to 14 are the address's
 unfoldable pub address-holds : Address → List ℕ → Bool

@@ -3,11 +3,15 @@ ghost use mathlib.Core.Path.{_≡_};
 ghost use mathlib.Core.Bool.{true};
 ghost use lib.ListN.{length};
 ghost use Rattle.sector.specs.Address.{valid};
-ghost use Rattle.sector.specs.Judge.{sync-holds, mode-holds, edc-holds, address-holds, judgement};
+ghost use Rattle.sector.specs.Layout.{Fits};
+ghost use Rattle.sector.specs.Judge.{sync-holds, mode-holds, code-right, unwritten, edc-holds, address-holds, judgement};
 use super::Address;
 use super::Judgement;
 use super::frame;
 use super::header;
+use super::layout::Layout;
+use super::layout::kind_read;
+use super::layout::layout_of;
 use slices::equal;
 
 fn sync_holds(sector: &[u8]) -> bool
@@ -21,15 +25,41 @@ fn mode_holds(sector: &[u8]) -> bool
     requires { ⌜ length (now sector) ≡ 2352 ⌝ }
     ensures { λ r. ⌜ r ≡ mode-holds (now (sector .entry)) ⌝ }
 {
-    sector[15] == 1
+    let copies = equal(&sector[16..20], &sector[20..24]);
+    (sector[15] == 1) | ((sector[15] == 2) & copies)
 }
 
+fn code_right(sector: &[u8], layout: Layout) -> bool
+    requires { ⌜ length (now sector) ≡ 2352 ⌝ }
+    requires { ⌜ Fits layout ⌝ }
+    ensures { λ r. ⌜ r ≡ code-right layout (now (sector .entry)) ⌝ }
+{
+    let from = layout.covered;
+    let to = layout.code;
+    let code = frame::code_bytes(edc::edc(&sector[from..to]));
+    equal(&sector[to..to + 4], &code)
+}
+
+fn unwritten(sector: &[u8], layout: Layout) -> bool
+    requires { ⌜ length (now sector) ≡ 2352 ⌝ }
+    requires { ⌜ Fits layout ⌝ }
+    ensures { λ r. ⌜ r ≡ unwritten layout (now (sector .entry)) ⌝ }
+{
+    let at = layout.code;
+    let zero = [0u8; 4];
+    layout.optional & equal(&sector[at..at + 4], &zero)
+}
+
+// A code that is none is not worked out.
 fn edc_holds(sector: &[u8]) -> bool
     requires { ⌜ length (now sector) ≡ 2352 ⌝ }
     ensures { λ r. ⌜ r ≡ edc-holds (now (sector .entry)) ⌝ }
 {
-    let code = frame::code_bytes(edc::edc(&sector[..2064]));
-    equal(&sector[2064..2068], &code)
+    let layout = layout_of(kind_read(sector));
+    if unwritten(sector, layout) {
+        return true;
+    }
+    code_right(sector, layout)
 }
 
 fn address_holds(sector: &[u8], address: Address) -> bool

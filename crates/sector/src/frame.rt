@@ -2,27 +2,38 @@
 ghost use mathlib.Core.Path.{_≡_};
 ghost use mathlib.Core.Bool.{true};
 ghost use mathlib.Core.List.{_++_};
-ghost use lib.ListN.{length, drop};
+ghost use lib.ListN.{length, drop, replicate};
 ghost use Rattle.sector.specs.Address.{valid};
-ghost use Rattle.sector.specs.Sector.{head, tail, low4, framed, encoded};
+ghost use Rattle.sector.specs.Layout.{Fits, end};
+ghost use Rattle.sector.specs.Sector.{full-head, low4, framed, encoded};
 use super::Address;
+use super::Subheader;
 use super::header;
+use super::layout::Layout;
 
 // Bytes 0 to 11 of every sector.
 pub const SYNC: [u8; 12] = [0, 255, 255, 255, 255, 255, 255, 255, 255, 255, 255, 0];
 
-// Bytes 0 to 15: sync, address and mode.
-fn head_of(address: Address) -> [u8; 16]
+// Sync, address, mode, and the subheader twice.
+fn full_head(mode: u8, address: Address, subheader: Subheader) -> [u8; 24]
     requires { ⌜ valid address ≡ true ⌝ }
-    ensures { λ r. ⌜ r ≡ head address ⌝ }
+    ensures { λ r. ⌜ r ≡ full-head mode address subheader ⌝ }
 {
     let a = header::bytes_of(address);
-    let mut head = [0; 16];
+    let mut head = [0; 24];
     bytes::copy(&SYNC, &mut head);
     head[12] = a[0];
     head[13] = a[1];
     head[14] = a[2];
-    head[15] = 1;
+    head[15] = mode;
+    head[16] = subheader.file;
+    head[17] = subheader.channel;
+    head[18] = subheader.submode;
+    head[19] = subheader.coding;
+    head[20] = subheader.file;
+    head[21] = subheader.channel;
+    head[22] = subheader.submode;
+    head[23] = subheader.coding;
     head
 }
 
@@ -38,33 +49,41 @@ pub fn code_bytes(code: u32) -> [u8; 4]
     ]
 }
 
-// Bytes 2,064 to 2,075: the code and eight zeros.
-fn tail_of(code: u32) -> [u8; 12]
-    ensures { λ r. ⌜ r ≡ tail code ⌝ }
+// The code and eight zeros.
+fn full_tail(code: u32) -> [u8; 12]
+    ensures { λ r. ⌜ r ≡ low4 code ++ replicate 8 0 ⌝ }
 {
     let b = code_bytes(code);
     [b[0], b[1], b[2], b[3], 0, 0, 0, 0, 0, 0, 0, 0]
 }
 
-// Writes head and tail around the user bytes; the code covers the header, which is written first.
-fn put_frame(sector: &mut [u8], address: Address)
+// Writes head, code and zeros around the user bytes; the code covers the head, which is written first.
+fn put_frame(sector: &mut [u8], layout: Layout, address: Address, subheader: Subheader)
     requires { ⌜ length (now sector) ≡ 2352 ⌝ }
+    requires { ⌜ Fits layout ⌝ }
     requires { ⌜ valid address ≡ true ⌝ }
-    ensures { λ _. ⌜ now (sector .exit) ≡ framed address (now (sector .entry)) ++ drop 2076 (now (sector .entry)) ⌝ }
+    ensures { λ _. ⌜ now (sector .exit) ≡ framed layout address subheader (now (sector .entry)) ++ drop (end layout) (now (sector .entry)) ⌝ }
 {
-    let head = head_of(address);
-    bytes::copy(&head, sector);
-    let tail = tail_of(edc::edc(&sector[..2064]));
-    bytes::copy(&tail, &mut sector[2064..]);
+    let user = layout.user;
+    let covered = layout.covered;
+    let code = layout.code;
+    let behind = 4 + layout.zeros;
+    let head = full_head(layout.mode, address, subheader);
+    bytes::copy(&head[..user], sector);
+    let tail = full_tail(edc::edc(&sector[covered..code]));
+    bytes::copy(&tail[..behind], &mut sector[code..]);
 }
 
 // Writes all that a sector has around its user bytes: the parity covers what stands before it, and is written last.
-// Ruled out: one that leaves the parity bytes that lay there, and one that takes the header as zeros.
-pub fn put(sector: &mut [u8], address: Address)
+// Ruled out: one that leaves the parity bytes that lay there, and one that writes parity over form 2's user bytes.
+pub fn put(sector: &mut [u8], layout: Layout, address: Address, subheader: Subheader)
     requires { ⌜ length (now sector) ≡ 2352 ⌝ }
+    requires { ⌜ Fits layout ⌝ }
     requires { ⌜ valid address ≡ true ⌝ }
-    ensures { λ _. ⌜ now (sector .exit) ≡ encoded address (now (sector .entry)) ⌝ }
+    ensures { λ _. ⌜ now (sector .exit) ≡ encoded layout address subheader (now (sector .entry)) ⌝ }
 {
-    put_frame(sector, address);
-    parity::write(sector, false);
+    put_frame(sector, layout, address, subheader);
+    if layout.parity {
+        parity::write(sector, layout.masked);
+    }
 }

@@ -1,4 +1,4 @@
-// Sectors of mode 1 (ECMA-130, clause 14; paper 01, "Sectors"): sealing user data at an address, opening a sector, judging an opened one and
+// Sectors of mode 1 and mode 2 (ECMA-130, clause 14; paper 01, "Sectors"; paper 02, ask 4): sealing user data at an address, opening a sector, judging an opened one and
 // checking its parity, and receiving one from the disc. All but the last are total: each answers every input with a reply number, and a refusal
 // changes no byte.
 ghost use mathlib.Core.Path.{_≡_};
@@ -6,13 +6,16 @@ ghost use mathlib.Core.Bool.{true};
 ghost use lib.ListN.{length};
 ghost use Rattle.sector.specs.Address.{valid};
 ghost use Rattle.sector.specs.Receive.{received};
-ghost use Rattle.sector.specs.Calls.{seal-reply, seal-sector, open-reply, open-sector, refused, judge-answer, parity-reply};
+ghost use Rattle.sector.specs.Calls.{seal-reply, seal-sector, open-reply, open-sector, refused, judge-answer, words-hold, parity-reply};
 
 mod checks;
 mod facts;
 mod frame;
 mod header;
+mod layout;
 
+use layout::Layout;
+pub use layout::agrees;
 use numbers::weight;
 use reply::Reply;
 use reply::answer;
@@ -28,7 +31,15 @@ pub struct Address {
     pub frame: u16,
 }
 
-// What failed of a sector: the sync bytes, the mode byte, the EDC, the address that was expected.
+// What stands before the user bytes of mode 2, twice: file and channel number, submode, coding information.
+pub struct Subheader {
+    pub file: u8,
+    pub channel: u8,
+    pub submode: u8,
+    pub coding: u8,
+}
+
+// What failed of a sector: the sync bytes, the mode, the EDC, the address that was expected.
 pub struct Judgement {
     pub sync: bool,
     pub mode: bool,
@@ -42,11 +53,12 @@ pub struct Judged {
     pub judgement: Judgement,
 }
 
-// Seals a buffer at an address where it lies: bytes 0 to 15, and the EDC, zeros and parity behind the user bytes are written, then all is
-// scrambled. Of what lay there only the user bytes count.
-// Ruled out: one that writes and then refuses the address, and one that takes the EDC before the header is written.
-pub fn seal(sector: &mut [u8], address: Address) -> Reply
-    ensures { λ r. ⌜ (r ≡ seal-reply (now (sector .entry)) address) × (now (sector .exit) ≡ seal-sector (now (sector .entry)) address) ⌝ }
+// Seals a buffer at an address where it lies, as a sector of kind 1, 2 or 3: all that stands around the kind's user bytes is written, in mode 2 with the
+// subheader, then all is scrambled. Of what lay there only the user bytes count.
+// Ruled out: one that writes and then refuses the kind, and one that takes the EDC before the head is written.
+pub fn seal(sector: &mut [u8], address: Address, kind: u16, subheader: Subheader) -> Reply
+    ensures { λ r. ⌜ (r ≡ seal-reply (now (sector .entry)) address kind subheader)
+        × (now (sector .exit) ≡ seal-sector (now (sector .entry)) address kind subheader) ⌝ }
 {
     if sector.len() != LENGTH {
         return refuse(1);
@@ -54,7 +66,10 @@ pub fn seal(sector: &mut [u8], address: Address) -> Reply
     if !address.valid() {
         return refuse(3);
     }
-    frame::put(sector, address);
+    if !layout::agrees(kind, subheader) {
+        return refuse(3);
+    }
+    frame::put(sector, layout::layout_of(kind), address, subheader);
     scramble::scramble(sector);
     answer(0)
 }
@@ -97,15 +112,26 @@ pub fn judge(sector: &[u8], address: Address) -> Judged
     }
 }
 
-// Checks the parity of an opened sector: 1 if every word holds.
-// Ruled out: one that answers 1 for yes as its number, and one that takes the header as zeros.
+// Whether the parity holds that a layout has.
+fn words_hold(sector: &[u8], layout: Layout) -> bool
+    requires { ⌜ length (now sector) ≡ 2352 ⌝ }
+    ensures { λ r. ⌜ r ≡ words-hold layout (now (sector .entry)) ⌝ }
+{
+    if !layout.parity {
+        return true;
+    }
+    parity::check(sector, layout.masked)
+}
+
+// Checks the parity of an opened sector by the kind that is read from it: 1 if every word holds, or there is none.
+// Ruled out: one that answers 1 for yes as its number, and one that takes mode 1's header as zeros.
 pub fn check_parity(sector: &[u8]) -> Reply
     ensures { λ r. ⌜ r ≡ parity-reply (now (sector .entry)) ⌝ }
 {
     if sector.len() != LENGTH {
         return refuse(1);
     }
-    let holds = parity::check(sector, false);
+    let holds = words_hold(sector, layout::layout_of(layout::kind_read(sector)));
     answer(weight(holds, 1))
 }
 

@@ -1,4 +1,4 @@
--- The sixteen forms of a line (paper 01, "Bench cases"; docs/DECISIONS.md, "Bench"), in ASCII, each run of decimal digits written as one `0`.
+-- The eighteen forms of a line (paper 01, "Bench cases"; docs/DECISIONS.md, "Bench"), in ASCII, each run of decimal digits written as one `0`.
 -- Assumes nothing.
 use Prim.Native.Nat.{ℕ}
 use mathlib.Core.List.{List, [], _∷_}
@@ -46,6 +46,14 @@ sector-form = 99 ∷ 97 ∷ 108 ∷ 108 ∷ 61 ∷ 115 ∷ 101 ∷ 99 ∷ 116 �
 -- "call=scratch from=0 count=0"
 abbrev pub scratch-form : List ℕ
 scratch-form = 99 ∷ 97 ∷ 108 ∷ 108 ∷ 61 ∷ 115 ∷ 99 ∷ 114 ∷ 97 ∷ 116 ∷ 99 ∷ 104 ∷ 32 ∷ 102 ∷ 114 ∷ 111 ∷ 109 ∷ 61 ∷ 48 ∷ 32 ∷ 99 ∷ 111 ∷ 117 ∷ 110 ∷ 116 ∷ 61 ∷ 48 ∷ []
+
+-- "call=kind number=0"
+abbrev pub kind-form : List ℕ
+kind-form = 99 ∷ 97 ∷ 108 ∷ 108 ∷ 61 ∷ 107 ∷ 105 ∷ 110 ∷ 100 ∷ 32 ∷ 110 ∷ 117 ∷ 109 ∷ 98 ∷ 101 ∷ 114 ∷ 61 ∷ 48 ∷ []
+
+-- "call=subheader file=0 channel=0 submode=0 coding=0"
+abbrev pub subheader-form : List ℕ
+subheader-form = 99 ∷ 97 ∷ 108 ∷ 108 ∷ 61 ∷ 115 ∷ 117 ∷ 98 ∷ 104 ∷ 101 ∷ 97 ∷ 100 ∷ 101 ∷ 114 ∷ 32 ∷ 102 ∷ 105 ∷ 108 ∷ 101 ∷ 61 ∷ 48 ∷ 32 ∷ 99 ∷ 104 ∷ 97 ∷ 110 ∷ 110 ∷ 101 ∷ 108 ∷ 61 ∷ 48 ∷ 32 ∷ 115 ∷ 117 ∷ 98 ∷ 109 ∷ 111 ∷ 100 ∷ 101 ∷ 61 ∷ 48 ∷ 32 ∷ 99 ∷ 111 ∷ 100 ∷ 105 ∷ 110 ∷ 103 ∷ 61 ∷ 48 ∷ []
 
 -- "call=reset"
 abbrev pub reset-form : List ℕ

@@ -7,10 +7,10 @@ use lib.Dec.{ltb, leb}
 use lib.ListN.{length}
 use Rattle.laws.specs.Choice.{if_then_else_}
 use Rattle.laws.specs.Same.{same}
-use Rattle.syntax.specs.Forms.{open-form, read-form, block-form, packet-form, command-form, send-form, write-form, window-form, address-form, sector-form, scratch-form, reset-form, look-form, word-form, status-form, srst-form}
+use Rattle.syntax.specs.Forms.{open-form, read-form, block-form, packet-form, command-form, send-form, write-form, window-form, address-form, sector-form, scratch-form, kind-form, subheader-form, reset-form, look-form, word-form, status-form, srst-form}
 use Rattle.syntax.specs.declared.numbers.Numbers.{Numbers}
 use Rattle.syntax.specs.declared.line.Line.{Line}
-use Rattle.syntax.specs.declared.line.Line.the-variants.{Malformed, Open, Plain, Look, Take, Disc, Scratch}
+use Rattle.syntax.specs.declared.line.Line.the-variants.{Malformed, Open, Plain, Look, Take, Disc, Scratch, SetKind, SetSubheader}
 use Rattle.calls.specs.declared.Call.the-variants.{Read, Write, SetBlock, SetWindow, SetExpected, PacketByte, Reset, Command, PacketWord, Status, Srst}
 
 -- `0` to `9`
@@ -66,11 +66,13 @@ bare f =
     else if same f srst-form then Plain Srst
     else Malformed
 
--- the disc's: a sector, and what it arrives with
+-- the disc's: a sector, what it arrives with, and what sectors carry
 unfoldable pub disc : List ℕ → Numbers → Line
 disc f n =
     if same f sector-form then Disc (record { minute = n .a; second = n .b; frame = n .c }) (n .d)
     else if same f scratch-form then Scratch (n .c) (n .d)
+    else if same f kind-form then SetKind (n .d)
+    else if same f subheader-form then SetSubheader (n .a) (n .b) (n .c) (n .d)
     else bare f
 
 -- the chip's calls with several numbers

@@ -9,8 +9,8 @@ use slices::equal;
 ghost use mathlib.Core.Path.{_≡_};
 ghost use Rattle.syntax.specs.Grammar.{bare, disc, several, named, parse};
 
-// The calls of the bench, by their names in docs/BENCH.md: `word` is `Take`, `sector` is `Disc`, `scratch` is the disc's, and the calls of the chip that are lent no
-// memory are `Plain`: `block`, `window` and `address` set, `packet` is a packet byte and `send` a packet word.
+// The calls of the bench, by their names in docs/BENCH.md: `word` is `Take`, `sector` is `Disc`; `scratch`, `kind` and `subheader` are the disc's too;
+// and the calls of the chip that are lent no memory are `Plain`: `block`, `window` and `address` set, `packet` is a packet byte and `send` a packet word.
 pub enum Line {
     Malformed,
     Open(u16),
@@ -19,6 +19,8 @@ pub enum Line {
     Take,
     Disc(Address, u16),
     Scratch(u16, u16),
+    SetKind(u16),
+    SetSubheader(u16, u16, u16, u16),
 }
 
 // The calls with no number.
@@ -43,7 +45,7 @@ fn bare(form: &[u8]) -> Line
     Line::Malformed
 }
 
-// The disc's: a sector, and what it arrives with.
+// The disc's: a sector, what it arrives with, and what sectors carry.
 fn disc(form: &[u8], n: Numbers) -> Line
     ensures { λ r. ⌜ r ≡ disc (now (form .entry)) n ⌝ }
 {
@@ -57,6 +59,12 @@ fn disc(form: &[u8], n: Numbers) -> Line
     }
     if equal(form, b"call=scratch from=0 count=0") {
         return Line::Scratch(n.c, n.d);
+    }
+    if equal(form, b"call=kind number=0") {
+        return Line::SetKind(n.d);
+    }
+    if equal(form, b"call=subheader file=0 channel=0 submode=0 coding=0") {
+        return Line::SetSubheader(n.a, n.b, n.c, n.d);
     }
     bare(form)
 }

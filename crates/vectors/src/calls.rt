@@ -1,5 +1,7 @@
 // The library's calls on what a record holds, each as a yes or no: does it answer what it has to.
+use super::kinds::Kind;
 use sector::Address;
+use sector::Subheader;
 
 // Puts `part` into the buffer from `at` on, where it fits.
 pub(crate) fn put(buffer: &mut [u8], at: usize, part: &[u8]) {
@@ -12,12 +14,47 @@ pub(crate) fn put(buffer: &mut [u8], at: usize, part: &[u8]) {
     bytes::copy(part, &mut buffer[at..]);
 }
 
+// So many bytes from `at` on, or none where there are not so many.
+pub(crate) fn part(bytes: &[u8], at: usize, size: usize) -> &[u8] {
+    if at > bytes.len() {
+        return &bytes[..0];
+    }
+    if size > bytes.len() - at {
+        return &bytes[..0];
+    }
+    &bytes[at..at + size]
+}
+
+// The subheader of four bytes.
+pub(crate) fn subheader(bytes: &[u8]) -> Subheader {
+    if bytes.len() != 4 {
+        return Subheader {
+            file: 0,
+            channel: 0,
+            submode: 0,
+            coding: 0,
+        };
+    }
+    Subheader {
+        file: bytes[0],
+        channel: bytes[1],
+        submode: bytes[2],
+        coding: bytes[3],
+    }
+}
+
 // Sealing gives the scrambled sector, from a buffer that holds its user bytes and nothing else of it.
-pub(crate) fn seals(user: &[u8], address: Address, scrambled: &[u8]) -> bool {
+pub(crate) fn seals(
+    user: &[u8],
+    kind: Kind,
+    header: Subheader,
+    address: Address,
+    scrambled: &[u8],
+) -> bool {
     let mut space = [0xa5u8; 2352];
     let buffer: &mut [u8] = &mut space;
-    put(buffer, 16, user);
-    let reply = sector::seal(buffer, address);
+    put(buffer, kind.user, user);
+    let reply = sector::seal(buffer, address, kind.number, header);
     reply.number == 0 && reply.result == 0 && check::same(buffer, scrambled)
 }
 

@@ -1,5 +1,7 @@
 // The file of vectors: a header of 32 bytes, then records of 7,052 bytes, read one at a time. Whatever is wrong with it is a check
 // that failed, and ends the reading.
+ghost use mathlib.Core.Path.{_≡_};
+ghost use lib.ListN.{length};
 use super::fields;
 use super::record;
 use super::tally;
@@ -21,6 +23,7 @@ struct Reading {
     records: u32,
     mode1: u32,
     form1: u32,
+    form2: u32,
     goes_on: bool,
 }
 
@@ -64,27 +67,43 @@ fn ended(tally: Tally, r: Reading) -> Reading {
         records: r.records,
         mode1: r.mode1,
         form1: r.form1,
+        form2: r.form2,
         goes_on: false,
     }
 }
 
-// One record more, run by its kind: 1 is mode 1, and 2 is mode 2, form 1.
+// A record of another kind than the three is a check that failed.
+fn run_record(number: u32, bytes: &[u8], t: Tally) -> Tally
+    requires { ⌜ length (now bytes) ≡ 7052 ⌝ }
+{
+    if bytes[0] > 3 {
+        return failure(b" kinds 1 to 3", t);
+    }
+    record::checks(number, bytes, t)
+}
+
+// One more of a kind.
+fn counted(count: u32, kind: u8, of: u8) -> u32 {
+    if kind != of {
+        return count;
+    }
+    std::num::wrapping_add_u32(count, 1)
+}
+
+// One record more, run by its kind: 1 is mode 1, 2 is mode 2 form 1, and 3 is mode 2 form 2.
 fn take(bytes: &[u8], r: Reading) -> Reading {
     let t = r.tally;
     if bytes.len() != 7052 {
         return ended(failure(b" whole records", t), r);
     }
     let number = r.records;
+    let kind = bytes[0];
     let mut next = r;
     next.records = std::num::wrapping_add_u32(number, 1);
-    if bytes[0] == 1 {
-        next.tally = record::checks(number, bytes, t);
-        next.mode1 = std::num::wrapping_add_u32(next.mode1, 1);
-    }
-    if bytes[0] == 2 {
-        next.tally = record::form1_checks(number, bytes, t);
-        next.form1 = std::num::wrapping_add_u32(next.form1, 1);
-    }
+    next.mode1 = counted(r.mode1, kind, 1);
+    next.form1 = counted(r.form1, kind, 2);
+    next.form2 = counted(r.form2, kind, 3);
+    next.tally = run_record(number, bytes, t);
     next
 }
 
@@ -101,6 +120,7 @@ fn read_all(fd: i32, count: u32, t: Tally) -> Reading {
         records: 0,
         mode1: 0,
         form1: 0,
+        form2: 0,
         goes_on: true,
     };
     let mut left = count;
@@ -121,8 +141,11 @@ fn records(fd: i32, count: u32, t: Tally) -> Tally {
     tally::text(b", ");
     tally::number(r.form1);
     let v = u.check(b" of form 1", r.form1 > 0);
+    tally::text(b", ");
+    tally::number(r.form2);
+    let w = v.check(b" of form 2", r.form2 > 0);
     tally::text(b"\n");
-    v
+    w
 }
 
 fn run(fd: i32, header: Header, t: Tally) -> Tally {

@@ -1,9 +1,10 @@
 // Runs vectors from outside for the sectors of ECMA-130 through the library and compares: published values, what the calls refuse,
-// the records of mode 1 of the file sectors.bin, and the parity of those of mode 2, form 1. Behind each check stands `ok` or `FAILED`, and the last line counts them.
+// and the records of the file sectors.bin, of mode 1 and of both forms of mode 2. Behind each check stands `ok` or `FAILED`, and the last line counts them.
 mod calls;
 mod damage;
 mod fields;
 mod file;
+mod kinds;
 mod published;
 mod record;
 mod refusals;

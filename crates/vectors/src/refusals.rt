@@ -1,9 +1,11 @@
-// What the calls refuse: a length other than 2,352 by reply 1, an address out of range by reply 3, and no byte changed.
+// What the calls refuse: a length other than 2,352 by reply 1; an address out of range, an unknown kind or a form bit that is not the kind's by reply 3;
+// and no byte changed.
 use super::tally;
 use super::tally::Tally;
 use reply::Reply;
 use sector::Address;
 use sector::Judged;
+use sector::Subheader;
 
 const START: Address = Address {
     minute: 0,
@@ -20,9 +22,18 @@ fn is_refused(j: Judged, number: u8) -> bool {
     j.number == number && facts.why() == 0
 }
 
+fn with_submode(submode: u8) -> Subheader {
+    Subheader {
+        file: 1,
+        channel: 2,
+        submode: submode,
+        coding: 4,
+    }
+}
+
 // Sealing and judging at `address` answer `number`, and the buffer stays.
 fn refused_by(sector: &mut [u8], before: &[u8], address: Address, number: u8) -> bool {
-    let sealed = is_refusal(sector::seal(sector, address), number);
+    let sealed = is_refusal(sector::seal(sector, address, 1, with_submode(0)), number);
     let judged = is_refused(sector::judge(sector, address), number);
     sealed && judged && check::same(sector, before)
 }
@@ -76,9 +87,31 @@ fn addresses(t: Tally) -> Tally {
         .check(b" frame 75", frame)
 }
 
+// Sealing refuses the kind with this submode, and changes no byte; a wrong length is refused before it.
+fn bad_kind(kind: u16, submode: u8) -> bool {
+    let before = [0x5au8; 2352];
+    let mut space = [0x5au8; 2352];
+    let sector: &mut [u8] = &mut space;
+    let sealed = is_refusal(sector::seal(sector, START, kind, with_submode(submode)), 3);
+    let mut short = [0u8; 2351];
+    let first = is_refusal(
+        sector::seal(&mut short, START, kind, with_submode(submode)),
+        1,
+    );
+    sealed && first && check::same(sector, &before)
+}
+
+fn kinds(t: Tally) -> Tally {
+    let a = t.check(b" kind 0", bad_kind(0, 0x00));
+    let b = a.check(b" kind 4", bad_kind(4, 0x20));
+    let c = b.check(b" kind 257", bad_kind(257, 0x00));
+    let d = c.check(b" form 1 with bit 5", bad_kind(2, 0x28));
+    d.check(b" form 2 without", bad_kind(3, 0xdf))
+}
+
 pub(crate) fn checks(t: Tally) -> Tally {
     tally::text(b"refused");
-    let u = addresses(lengths(t));
+    let u = kinds(addresses(lengths(t)));
     tally::text(b"\n");
     u
 }

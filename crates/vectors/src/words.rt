@@ -60,6 +60,16 @@ fn p_alone(plain: &[u8], masked: bool) -> bool {
     fails(buffer, masked)
 }
 
+// With all its user bytes other ones, the check of a form 2 sector says yes.
+pub(crate) fn any_bytes(plain: &[u8]) -> bool {
+    let other = [0xa5u8; 2324];
+    let mut space = [0u8; 2352];
+    let buffer: &mut [u8] = &mut space;
+    calls::put(buffer, 0, plain);
+    calls::put(buffer, 24, &other);
+    calls::says(buffer, 1)
+}
+
 pub(crate) fn checks(plain: &[u8], masked: bool, t: Tally) -> Tally
     requires { ⌜ length (now plain) ≡ 2352 ⌝ }
 {

@@ -31,8 +31,25 @@ pub fn bench(memory: &mut [u8], sector: &mut [u8], text: &[u8], out: &mut [u8]) 
 #[cfg(test)]
 mod tests {
     use super::*;
-    use crate::SECTOR_BYTES;
+    use crate::{open, Kind, SECTOR_BYTES};
     use std::vec;
+
+    /// A form 2 sector whose user bytes are all 66, as the lines before it say; opened, the buffer has it.
+    #[test]
+    fn a_sector_is_of_the_kind_that_was_named() {
+        let (mut memory, mut sector) = (vec![0; RING_BYTES], [0; SECTOR_BYTES]);
+        let mut out = [0; 7 * ANSWER_ROOM];
+        let text = b"call=open ring=3\n\
+            call=write reg=154 value=32\ncall=write reg=156 value=96\ncall=write reg=10 value=128\n\
+            call=kind number=3\ncall=subheader file=1 channel=2 submode=36 coding=127\n\
+            call=sector min=0 sec=2 frame=0 fill=66\n";
+        let size = bench(&mut memory, &mut sector, text, &mut out);
+        let answers = core::str::from_utf8(&out[..size]).expect("text");
+        assert_eq!(answers.lines().last(), Some("n=7 answer=0 out=0 tcc=1 bufc=1 why=0 irq=0"));
+        assert_eq!(open(&mut sector), Ok(()));
+        assert_eq!(sector[12..24], [0, 2, 0, 2, 1, 2, 36, 127, 1, 2, 36, 127]);
+        assert_eq!((Kind::of(&sector), &sector[Kind::Form2.user()]), (Ok(Kind::Form2), &[66; 2324][..]));
+    }
 
     #[test]
     fn lines_are_run_while_there_is_room() {

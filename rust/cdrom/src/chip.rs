@@ -140,8 +140,10 @@ impl Chip<'_> {
 
 /// The disc's call, and what it found.
 impl Chip<'_> {
-    /// A sector as it comes from the disc: descrambled into block B, judged against the expected address, and counted
-    /// where it is good. After a bad one the chip is held until DECEN is taken low; [`why`](Chip::why) says what failed.
+    /// A sector of any kind as it comes from the disc: descrambled into block B, judged against the expected address,
+    /// and counted where it is good. After a bad one the chip is held until DECEN is taken low; [`why`](Chip::why)
+    /// says what failed. The chip does not keep the kind, and the window is the same for all kinds:
+    /// [`Kind::of`](crate::Kind::of) the block's first [`SECTOR_BYTES`](crate::SECTOR_BYTES) tells it.
     ///
     /// Refusals: [`WrongLength`](Refusal::WrongLength) also for the sector, [`DecodingOff`](Refusal::DecodingOff),
     /// [`Held`](Refusal::Held), [`NoRoom`](Refusal::NoRoom).

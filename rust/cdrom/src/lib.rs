@@ -1,6 +1,7 @@
-//! A CD-ROM drive's buffer, called from Rust: the W88113C with its ring of blocks, sectors of mode 1 (ECMA-130), and
-//! the bench over a text of calls. The calls are those of the proved library `libcdrom.a` (`include/cdrom.h`); this
-//! crate declares them ([`raw`]) and wraps them, without `std`, without allocation and without dependencies.
+//! A CD-ROM drive's buffer, called from Rust: the W88113C with its ring of blocks, sectors of mode 1 (ECMA-130) and of
+//! mode 2 in both forms (CD-ROM XA), and the bench over a text of calls. The calls are those of the proved library
+//! `libcdrom.a` (`include/cdrom.h`); this crate declares them ([`raw`]) and wraps them, without `std`, without
+//! allocation and without dependencies.
 //!
 //! [`Chip`] owns its record and borrows its ring's memory. A refused call gives a [`Refusal`] and has changed nothing.
 //!
@@ -82,6 +83,7 @@ extern crate std;
 
 mod bench;
 mod chip;
+mod kinds;
 #[allow(missing_docs)]
 pub mod raw;
 mod refusal;
@@ -90,12 +92,15 @@ mod sectors;
 
 pub use bench::{bench, ANSWER_ROOM, RING_BYTES};
 pub use chip::{Chip, Record, BLOCK_BYTES, LEAST_BLOCKS, MOST_BLOCKS};
+pub use kinds::{Kind, Subheader, SUBHEADER_BYTES, SUBHEADER_OFFSET, SUBMODE_FORM2};
+pub use kinds::{FORM1_BYTES, FORM2_BYTES, XA_USER_OFFSET};
 pub use refusal::Refusal;
-pub use sectors::{edc, judge, open, parity, seal, Address, Facts, Verdict, SECTOR_BYTES, USER_BYTES, USER_OFFSET};
+pub use sectors::{edc, judge, open, parity, seal, seal_xa, Address, Facts, Verdict};
+pub use sectors::{SECTOR_BYTES, USER_BYTES, USER_OFFSET};
 pub use sectors::{WHY_ADDRESS, WHY_EDC, WHY_MODE, WHY_SYNC};
 
-/// The version of `include/cdrom.h` that this crate declares. Since 4 the bytes of a start do not pass 65,534
-/// ([`ADTT`](registers::ADTT)). Since 3 [`seal`] writes the parity, and [`parity`] checks it. Since 2 [`judge`] gives
-/// [`Facts`] and [`Chip::why`] those of the last sector, and a [`Record`] that was kept under 1 must not be handed
-/// over.
-pub const VERSION: u32 = 4;
+/// The version of `include/cdrom.h` that this crate declares. Since 5 sectors of mode 2 are taken ([`Kind`]), and
+/// [`seal_xa`] makes them. Since 4 the bytes of a start do not pass 65,534 ([`ADTT`](registers::ADTT)). Since 3
+/// [`seal`] writes the parity, and [`parity`] checks it. Since 2 [`judge`] gives [`Facts`] and [`Chip::why`] those of
+/// the last sector, and a [`Record`] that was kept under 1 must not be handed over.
+pub const VERSION: u32 = 5;

@@ -5,6 +5,15 @@ pub const CHIP_WORDS: usize = 28;
 
 extern "C" {
     pub fn cdrom_seal(sector: *mut u8, length: usize, minute: u16, second: u16, frame: u16) -> u32;
+    pub fn cdrom_seal_xa(
+        sector: *mut u8,
+        length: usize,
+        minute: u16,
+        second: u16,
+        frame: u16,
+        kind: u16,
+        subheader: *const [u8; 4],
+    ) -> u32;
     pub fn cdrom_open(sector: *mut u8, length: usize) -> u32;
     pub fn cdrom_judge(sector: *const u8, length: usize, minute: u16, second: u16, frame: u16) -> u32;
     pub fn cdrom_parity(sector: *const u8, length: usize) -> u32;

@@ -11,7 +11,7 @@ pub enum Refusal {
     WrongLength = 1,
     /// No such register in that direction.
     NoRegister = 2,
-    /// A value or an address is out of its range.
+    /// A value or an address is out of its range, or a subheader's form bit is not its kind's.
     OutOfRange = 3,
     /// Not now: a transfer runs, a packet is being received, or BSY is set.
     Barred = 4,
@@ -70,7 +70,7 @@ impl fmt::Display for Refusal {
         let reason = match self {
             Refusal::WrongLength => "a length is wrong, or the chip's record is unsound",
             Refusal::NoRegister => "there is no such register in that direction",
-            Refusal::OutOfRange => "a value or an address is out of its range",
+            Refusal::OutOfRange => "a value or an address is out of its range, or a subheader is of another form",
             Refusal::Barred => "barred by a transfer, a packet reception or BSY",
             Refusal::Switches => "the switches are not as the call needs them",
             Refusal::TooFew => "fewer good blocks than asked for, or no full packet",

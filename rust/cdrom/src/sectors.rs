@@ -1,5 +1,6 @@
-//! Sectors of mode 1 (ECMA-130) without a chip: made, opened, judged, and their parity checked.
+//! Sectors without a chip: made, opened, judged, and their parity checked.
 
+use crate::kinds::{Kind, Subheader};
 use crate::raw;
 use crate::refusal::{done, result_of, Refusal};
 use crate::registers::{HCEI, STAERR};
@@ -7,16 +8,16 @@ use core::fmt;
 
 /// A sector as it comes from the disc.
 pub const SECTOR_BYTES: usize = 2352;
-/// Where a sector's user bytes begin.
+/// Where the user bytes of a sector of mode 1 begin; [`Kind::user`] has those of any kind.
 pub const USER_OFFSET: usize = 16;
-/// How many user bytes a sector has.
+/// How many user bytes a sector of mode 1 has.
 pub const USER_BYTES: usize = 2048;
 
 /// [`Facts::why`]: bytes 0 to 11 are not the sync bytes.
 pub const WHY_SYNC: u8 = 8;
-/// [`Facts::why`]: byte 15 is not 1.
+/// [`Facts::why`]: byte 15 is neither 1 nor 2, or it is 2 and the two subheaders are not equal.
 pub const WHY_MODE: u8 = 4;
-/// [`Facts::why`]: bytes 2,064 to 2,067 are not the error detection code of those before them.
+/// [`Facts::why`]: the error detection code is not that of the bytes it covers; four zeros in form 2 are none.
 pub const WHY_EDC: u8 = 2;
 /// [`Facts::why`]: bytes 12 to 14 are another address than the expected one.
 pub const WHY_ADDRESS: u8 = 1;
@@ -34,8 +35,11 @@ pub struct Address {
 
 /// What failed of a sector: four tests, each made whatever the others say. Its text is for a log.
 ///
-/// The code is taken over bytes 0 to 2,063, so that a damaged sync, mode or address byte fails it too. The address alone
-/// is a sector that was read well and lies elsewhere.
+/// The error detection code goes by the kind that is read ([`Kind::of`]). That of [`Kind::Mode1`] covers bytes 0 to
+/// 2,063, so that a damaged sync, mode or address byte fails it too: the address alone is a sector that was read well
+/// and lies elsewhere. That of [`Kind::Form1`] covers bytes 16 to 2,071, and that of [`Kind::Form2`] bytes 16 to
+/// 2,347: a damaged address byte is the address alone. In form 2 four zeros in place of the code say that none was
+/// written, and are taken: then no user byte was checked, and the sector is good all the same.
 ///
 /// ```
 /// # fn main() -> Result<(), cdrom::Refusal> {
@@ -55,9 +59,9 @@ pub struct Address {
 pub struct Facts {
     /// The sync bytes are wrong.
     pub sync: bool,
-    /// The mode is not 1.
+    /// The mode is neither 1 nor 2; or it is 2, and the two subheaders are not equal.
     pub mode: bool,
-    /// The error detection code is not that of the bytes before it.
+    /// The error detection code is not that of the bytes it covers; four zeros in form 2 are none, and do not fail.
     pub edc: bool,
     /// The sector's address is not the expected one.
     pub address: bool,
@@ -140,9 +144,9 @@ impl Verdict {
     }
 }
 
-/// Makes the buffer a scrambled sector of the user bytes that are in it. All other bytes are written, whatever was
-/// there: sync, address, mode, error detection code, zeros, and the P and Q parity of ECMA-130 Annex A. A sealed sector
-/// that is opened and sealed again at its address is the same, byte for byte.
+/// Makes the buffer a scrambled sector of mode 1 of the user bytes that are in it. All other bytes are written,
+/// whatever was there: sync, address, mode, error detection code, zeros, and the P and Q parity of ECMA-130 Annex A. A
+/// sealed sector that is opened and sealed again at its address is the same, byte for byte.
 ///
 /// Refusals: [`WrongLength`](Refusal::WrongLength), [`OutOfRange`](Refusal::OutOfRange) for the address.
 pub fn seal(sector: &mut [u8], address: Address) -> Result<(), Refusal> {
@@ -152,7 +156,48 @@ pub fn seal(sector: &mut [u8], address: Address) -> Result<(), Refusal> {
     done(answer)
 }
 
-/// Descrambles a sector.
+/// Makes the buffer a scrambled sector of a kind of the user bytes ([`Kind::user`]) that are in it. With
+/// [`Kind::Mode1`] it is [`seal`], and the subheader does not matter. In mode 2 all other bytes are written too: sync,
+/// address, mode, the subheader twice, the error detection code, and in form 1 the parity, worked out as if the header
+/// were zeros. A sealed sector that is opened and sealed again with its address, kind and subheader is the same, byte
+/// for byte.
+///
+/// Take the kind from the subheader, and its form bit cannot be another:
+///
+/// ```
+/// use cdrom::{judge, open, parity, seal_xa, Address, Kind, Subheader, SECTOR_BYTES};
+///
+/// # fn main() -> Result<(), cdrom::Refusal> {
+/// let place = Address { minute: 0, second: 2, frame: 0 };
+/// let subheader = Subheader { submode: 0x08, ..Subheader::default() };
+/// let kind = subheader.kind();
+/// assert_eq!(kind, Kind::Form1);
+///
+/// let mut sector = [0; SECTOR_BYTES];
+/// sector[kind.user()].fill(b'A');
+/// seal_xa(&mut sector, place, kind, subheader)?;
+///
+/// // As a reader has it: the kind, the subheader and the user bytes are read from the opened sector.
+/// open(&mut sector)?;
+/// assert!(judge(&sector, place)?.is_good() && parity(&sector)?);
+/// let read = Kind::of(&sector)?;
+/// assert_eq!((read, Subheader::of(&sector)?), (kind, subheader));
+/// assert_eq!(sector[read.user()], [b'A'; 2048]);
+/// # Ok(())
+/// # }
+/// ```
+///
+/// Refusals: [`WrongLength`](Refusal::WrongLength); [`OutOfRange`](Refusal::OutOfRange) for the address, and for a
+/// subheader of the other form.
+pub fn seal_xa(sector: &mut [u8], address: Address, kind: Kind, subheader: Subheader) -> Result<(), Refusal> {
+    let Address { minute, second, frame } = address;
+    let (pointer, length, bytes) = (sector.as_mut_ptr(), sector.len(), subheader.bytes());
+    // SAFETY: as in `seal`; the four bytes are ours, and only read.
+    let answer = unsafe { raw::cdrom_seal_xa(pointer, length, minute, second, frame, kind.number(), &bytes) };
+    done(answer)
+}
+
+/// Descrambles a sector of any kind.
 ///
 /// Refusals: [`WrongLength`](Refusal::WrongLength).
 pub fn open(sector: &mut [u8]) -> Result<(), Refusal> {
@@ -161,7 +206,27 @@ pub fn open(sector: &mut [u8]) -> Result<(), Refusal> {
     done(answer)
 }
 
-/// Judges an opened sector against the address that is expected of it.
+/// Judges an opened sector, of the kind that is read from it, against the address that is expected.
+///
+/// One wrong byte of those that are tested is told as long as the kind is read as before, in form 2 also as long as
+/// bytes 2,348 to 2,351 are not zeros, neither before nor after. But the mode byte says the kind: where that of a good
+/// sector of mode 1 becomes 2, its first user bytes are taken for subheaders, and it may be judged good; so may one of
+/// mode 2 where it becomes 1.
+///
+/// ```
+/// # fn main() -> Result<(), cdrom::Refusal> {
+/// let place = cdrom::Address { minute: 0, second: 2, frame: 0 };
+/// let mut sector = [0x20; cdrom::SECTOR_BYTES];
+/// cdrom::seal(&mut sector, place)?;
+/// cdrom::open(&mut sector)?;
+/// sector[2348..].fill(0); // as where no parity was written; it is not judged
+/// assert!(cdrom::judge(&sector, place)?.is_good());
+/// sector[15] = 2; // two equal subheaders with the form bit, and no code
+/// assert_eq!(cdrom::Kind::of(&sector)?, cdrom::Kind::Form2);
+/// assert!(cdrom::judge(&sector, place)?.is_good());
+/// # Ok(())
+/// # }
+/// ```
 ///
 /// Refusals: [`WrongLength`](Refusal::WrongLength), [`OutOfRange`](Refusal::OutOfRange) for the address.
 pub fn judge(sector: &[u8], expected: Address) -> Result<Facts, Refusal> {
@@ -174,9 +239,13 @@ pub fn judge(sector: &[u8], expected: Address) -> Result<Facts, Refusal> {
 /// Whether the parity of an opened sector holds, all 43 P words and 26 Q words in each of two byte planes (ECMA-130
 /// Annex A).
 ///
-/// It is none of the [`Facts`]. A good sector may have wrong parity, since [`judge`] does not look at bytes 2,068 to
-/// 2,351, and a bad one right parity: it holds for 2,352 zeros. The words are those of mode 1, whatever the mode byte.
-/// They cover bytes 12 to 2,351, and not the sync bytes: where all hold, a change of any one covered byte is told.
+/// It goes by the kind that is read ([`Kind::of`]). The words of [`Kind::Mode1`] cover bytes 12 to 2,351; those of
+/// [`Kind::Form1`] take the header, bytes 12 to 15, as zeros, whatever it is, and cover bytes 16 to 2,351. Where all
+/// hold, a change of any one covered byte is told, unless it changes the kind. [`Kind::Form2`] has no parity: it is
+/// always `true`, and says nothing.
+///
+/// It is none of the [`Facts`]. A good sector may have wrong parity, since [`judge`] does not look at the bytes behind
+/// the code, and a bad one right parity: it holds for 2,352 zeros.
 ///
 /// ```
 /// # fn main() -> Result<(), cdrom::Refusal> {
@@ -218,6 +287,8 @@ mod tests {
 
     const ADDRESS: Address = Address { minute: 12, second: 34, frame: 56 };
     const CODE_OFFSET: usize = 2064;
+    /// Of form 1, since no bit is set.
+    const NONE: Subheader = Subheader::from_bytes([0; 4]);
 
     /// The sixteen as a log has them, by their numbers.
     const TEXTS: [&str; 16] = [
@@ -306,12 +377,15 @@ mod tests {
         let mut sector = [0; SECTOR_BYTES + 1];
         for length in [0, SECTOR_BYTES - 1, SECTOR_BYTES + 1] {
             assert_eq!(seal(&mut sector[..length], ADDRESS), Err(Refusal::WrongLength));
+            assert_eq!(seal_xa(&mut sector[..length], ADDRESS, Kind::Form1, NONE), Err(Refusal::WrongLength));
             assert_eq!(open(&mut sector[..length]), Err(Refusal::WrongLength));
             assert_eq!(judge(&sector[..length], ADDRESS), Err(Refusal::WrongLength));
             assert_eq!(parity(&sector[..length]), Err(Refusal::WrongLength));
         }
         let no_address = Address { second: 60, ..ADDRESS };
         assert_eq!(seal(&mut sector[..SECTOR_BYTES], no_address), Err(Refusal::OutOfRange));
+        assert_eq!(seal_xa(&mut sector[..SECTOR_BYTES], no_address, Kind::Form1, NONE), Err(Refusal::OutOfRange));
+        assert_eq!(seal_xa(&mut sector[..SECTOR_BYTES], ADDRESS, Kind::Form2, NONE), Err(Refusal::OutOfRange));
         assert_eq!(judge(&sector[..SECTOR_BYTES], no_address), Err(Refusal::OutOfRange));
         assert_eq!(sector, [0; SECTOR_BYTES + 1]);
     }

@@ -3,13 +3,15 @@
 //! line unseen.
 
 use cdrom::registers::{HCEI, STAERR};
-use cdrom::{Facts, Refusal, WHY_EDC};
+use cdrom::{Facts, Kind, Refusal, FORM2_BYTES, SECTOR_BYTES, SUBMODE_FORM2, WHY_EDC};
+use cdrom::{USER_BYTES, USER_OFFSET, XA_USER_OFFSET};
 use std::collections::BTreeMap;
 
 const HEADER: &str = include_str!("../../../include/cdrom.h");
-const SOURCES: [&str; 7] = [
+const SOURCES: [&str; 8] = [
     include_str!("../src/bench.rs"),
     include_str!("../src/chip.rs"),
+    include_str!("../src/kinds.rs"),
     include_str!("../src/lib.rs"),
     include_str!("../src/raw.rs"),
     include_str!("../src/refusal.rs"),
@@ -23,9 +25,15 @@ const REFUSALS: [&str; 9] =
     ["WRONG_LENGTH", "NO_REGISTER", "OUT_OF_RANGE", "BARRED", "SWITCHES", "TOO_FEW", "DECODING_OFF", "HELD", "NO_ROOM"];
 /// Another name for a reply number.
 const ALIAS: &str = "BAD_ADDRESS";
-/// The macros with a parameter. The first two take an answer apart, as the crate's results do; the last is
-/// `Facts::verdict` and `Verdict::tarsta` in one.
-const MACROS: [&str; 3] = [
+/// The kinds by their names in the header, from 1 on; in the crate they are those of `Kind`.
+const KINDS: [&str; 3] = ["MODE1", "FORM1", "FORM2"];
+/// The macros with a parameter. The first two are `Kind::user`, the third is `Kind::of`; the next two take an answer
+/// apart, as the crate's results do; the last is `Facts::verdict` and `Verdict::tarsta` in one.
+const MACROS: [&str; 6] = [
+    "USER_OFFSET_OF(kind) ((kind) == CDROM_MODE1 ? CDROM_USER_OFFSET : CDROM_XA_USER_OFFSET)",
+    "USER_BYTES_OF(kind) ((kind) == CDROM_FORM2 ? CDROM_FORM2_BYTES : CDROM_USER_BYTES)",
+    "KIND_OF(sector) \
+     ((sector)[15] != 2 ? CDROM_MODE1 : (sector)[18] & CDROM_SUBMODE_FORM2 ? CDROM_FORM2 : CDROM_FORM1)",
     "NUMBER(answer) ((answer) & 0xFF)",
     "RESULT(answer) ((answer) >> 8)",
     "TARSTA_OF(why) ((((why) & 15) + CDROM_STAERR - CDROM_WHY_EDC) & (CDROM_STAERR | CDROM_HCEI))",
@@ -85,8 +93,8 @@ fn camel(name: &str) -> String {
 #[test]
 fn constants() {
     let mut header = header();
-    for reply in REFUSALS.iter().chain([&DONE]) {
-        header.remove(*reply).expect("a reply number of the header");
+    for name in REFUSALS.iter().chain([&DONE]).chain(&KINDS) {
+        header.remove(*name).expect("a reply number or a kind of the header");
     }
     assert!(header.len() > 60, "only {} constants were found", header.len());
     assert_eq!(declared(), header);
@@ -105,6 +113,16 @@ fn reply_numbers() {
 }
 
 #[test]
+fn kinds() {
+    let header = header();
+    for (name, number) in KINDS.into_iter().zip(1..) {
+        assert_eq!(header[name], u64::from(number), "{name}");
+        let kind = Kind::from_number(number).expect("a kind");
+        assert_eq!(format!("{kind:?}"), camel(name));
+    }
+}
+
+#[test]
 fn macros() {
     let with_parameter = |define: &&str| define.split(' ').next().is_some_and(|name| name.contains('('));
     assert_eq!(defines().filter(with_parameter).collect::<Vec<_>>(), MACROS);
@@ -112,5 +130,21 @@ fn macros() {
         let tarsta_of = ((u16::from(why) & 15) + STAERR - u16::from(WHY_EDC)) & (STAERR | HCEI);
         let facts = Facts::from_why(why).expect("0 to 15 are facts");
         assert_eq!(tarsta_of, facts.verdict().tarsta(), "{why}");
+    }
+}
+
+#[test]
+fn macros_of_kinds() {
+    for kind in [Kind::Mode1, Kind::Form1, Kind::Form2] {
+        let offset = if kind == Kind::Mode1 { USER_OFFSET } else { XA_USER_OFFSET };
+        let bytes = if kind == Kind::Form2 { FORM2_BYTES } else { USER_BYTES };
+        assert_eq!(kind.user(), offset..offset + bytes);
+    }
+    let mut sector = [0; SECTOR_BYTES];
+    for (mode, submode) in (0..=255).flat_map(|mode| (0..=255).map(move |submode| (mode, submode))) {
+        (sector[15], sector[18]) = (mode, submode);
+        let form = if sector[18] & SUBMODE_FORM2 != 0 { Kind::Form2 } else { Kind::Form1 };
+        let kind_of = if sector[15] != 2 { Kind::Mode1 } else { form };
+        assert_eq!(Kind::of(&sector), Ok(kind_of), "{mode}, {submode}");
     }
 }

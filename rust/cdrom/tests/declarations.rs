@@ -35,7 +35,7 @@ fn of_c(declaration: &str) -> (String, Vec<String>) {
     (name, parameters.map(|(name, kind)| format!("{name}: {kind}")).chain([result]).collect())
 }
 
-/// Name and Rust type of `const uint8_t *name`.
+/// Name and Rust type of `const uint8_t *name`; so many elements, `const uint8_t name[4]`, are lent as an array.
 fn typed(declared: &str) -> (String, String) {
     let words: Vec<&str> = declared.split_whitespace().collect();
     let (name, kind) = words.split_last().expect("a type and a name");
@@ -46,10 +46,14 @@ fn typed(declared: &str) -> (String, String) {
         "size_t" => "usize".to_string(),
         other => other.replace(RECORD.0, RECORD.1),
     };
-    match (name.strip_prefix('*'), kind) {
-        (None, [plain]) => (name.to_string(), rust(plain)),
-        (Some(name), [plain]) => (name.to_string(), format!("*mut {}", rust(plain))),
-        (Some(name), ["const", plain]) => (name.to_string(), format!("*const {}", rust(plain))),
+    let array = name.strip_suffix(']').and_then(|name| name.split_once('['));
+    match (name.strip_prefix('*'), array, kind) {
+        (None, None, [plain]) => (name.to_string(), rust(plain)),
+        (Some(name), None, [plain]) => (name.to_string(), format!("*mut {}", rust(plain))),
+        (Some(name), None, ["const", plain]) => (name.to_string(), format!("*const {}", rust(plain))),
+        (None, Some((name, count)), ["const", plain]) => {
+            (name.to_string(), format!("*const [{}; {count}]", rust(plain)))
+        }
         _ => panic!("{declared}: no such type is known here"),
     }
 }

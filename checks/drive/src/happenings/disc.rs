@@ -2,25 +2,28 @@
 //! sector that suffers it, so that what it has outlasted is counted there.
 
 use super::{Happenings, Step};
-use ecma130::{P_PARITY_START, Q_PARITY_START, SECTOR_BYTES};
+use ecma130::{Address, Facts, Kind, P_PARITY_START, Q_PARITY_START, SECTOR_BYTES};
 use model::Call;
 use std::collections::{BTreeMap, BTreeSet};
 use std::ops::Range;
 
-/// What is judged of a sector ends here.
-const JUDGED: usize = 2068;
 const MINUTE_PLACE: usize = 12;
 
 /// All that is counted here.
-pub const NAMES: [&str; 55] = [
+pub const NAMES: [&str; 60] = [
     "sector stored, why 0",
     "sector stored, why 1",
     "sector stored, why 2",
     "sector stored, why 3",
+    "sector stored, why 4",
+    "sector stored, why 5",
     "sector stored, why 6",
     "sector stored, why 7",
+    "sector stored, why 8",
+    "sector stored, why 9",
     "sector stored, why 10",
     "sector stored, why 11",
+    "sector stored, why 13",
     "sector stored, why 15",
     "80h read as 01h",
     "80h read as 40h",
@@ -71,13 +74,13 @@ pub const NAMES: [&str; 55] = [
 ];
 
 #[derive(Default)]
-pub struct Disc {
+pub struct Scratches {
     /// What the scratch that waits has outlasted.
     outlasted: BTreeSet<&'static str>,
     /// How the last scratch went; the next sector shows that it is gone.
     gone: Option<&'static str>,
-    /// Bytes that are inverted, by block.
-    inverted: BTreeMap<usize, Range<usize>>,
+    /// The kind that a sector was sealed as and its inverted bytes, by block.
+    stored: BTreeMap<usize, (Kind, Range<usize>)>,
 }
 
 /// Facts.
@@ -131,16 +134,16 @@ impl Happenings {
     pub fn note_disc(&mut self, step: &Step) {
         match step.call {
             Some(Call::Scratch { from, count }) => self.note_scratch(step, from, count),
-            Some(Call::Sector { .. }) if step.answer == 0 => self.note_arrival(step),
+            Some(Call::Sector { address, .. }) if step.answer == 0 => self.note_arrival(step, address),
             Some(Call::Open { .. }) if step.answer == 0 => {
-                self.disc = Disc::default();
-                self.disc.gone = (!step.scratch.is_none()).then_some("scratch gone by an opening");
+                self.scratches = Scratches::default();
+                self.scratches.gone = (!step.disc.scratch.is_none()).then_some("scratch gone by an opening");
             }
             Some(Call::Word) if step.answer == 0 => self.note_word_of_block(step),
             _ => {}
         }
-        if let (false, Some(what)) = (step.scratch.is_none(), outlasted_name(step)) {
-            self.disc.outlasted.insert(what);
+        if let (false, Some(what)) = (step.disc.scratch.is_none(), outlasted_name(step)) {
+            self.scratches.outlasted.insert(what);
         }
     }
 
@@ -154,35 +157,36 @@ impl Happenings {
         if step.answer != 0 {
             return;
         }
-        let waited = !step.scratch.is_none();
+        let waited = !step.disc.scratch.is_none();
         self.count("scratch accepted");
         self.count_if(count == 2352, "scratch of the whole sector");
-        self.disc.outlasted.clear();
-        self.disc.gone = (waited && count == 0).then_some("scratch gone, taken back");
+        self.scratches.outlasted.clear();
+        self.scratches.gone = (waited && count == 0).then_some("scratch gone, taken back");
         if waited && count > 0 {
-            self.disc.outlasted.insert("scratch in place of another");
+            self.scratches.outlasted.insert("scratch in place of another");
         }
     }
 
     /// A sector is stored: it has suffered the scratch that waited, or shows that there was none.
-    fn note_arrival(&mut self, step: &Step) {
-        let (inverted, outlasted) = (step.scratch.range(), std::mem::take(&mut self.disc.outlasted));
-        let gone = self.disc.gone.take();
-        if inverted.is_empty() {
-            gone.iter().for_each(|what| self.count(what));
-        }
-        if inverted.start < JUDGED && !inverted.is_empty() {
-            self.count("scratch shown by its sector");
-            outlasted.iter().for_each(|what| self.count(what));
-            self.disc.gone = Some("scratch gone after its sector");
-        }
+    fn note_arrival(&mut self, step: &Step, address: Address) {
+        let (inverted, outlasted) = (step.disc.scratch.range(), std::mem::take(&mut self.scratches.outlasted));
+        let gone = self.scratches.gone.take();
         let (Some(before), Some(after)) = (step.before, step.after) else {
             return;
         };
+        if inverted.is_empty() {
+            gone.iter().for_each(|what| self.count(what));
+        }
+        let unscratched = Facts { address: address != before.expected, ..Facts::default() };
+        if after.facts != unscratched {
+            self.count("scratch shown by its sector");
+            outlasted.iter().for_each(|what| self.count(what));
+            self.scratches.gone = Some("scratch gone after its sector");
+        }
         let to_minute = inverted.end == MINUTE_PLACE + 1;
         self.count_if(to_minute && !after.facts.address, "scratch that makes the minute the expected one");
         self.count_if(after.facts.is_good() && !inverted.is_empty(), "scratch in a good sector");
-        self.disc.inverted.insert(before.b, inverted);
+        self.scratches.stored.insert(before.b, (step.disc.kind, inverted));
     }
 
     fn note_word_of_block(&mut self, step: &Step) {
@@ -190,21 +194,24 @@ impl Happenings {
             return;
         };
         let (window, place) = (chip.window, chip.window.offset + 2 * transfer.place);
-        let inverted = self.disc.inverted.get(&chip.t).cloned().unwrap_or_default();
+        let Some((kind, inverted)) = self.scratches.stored.get(&chip.t).cloned() else {
+            return;
+        };
         let met = inverted.contains(&place) || inverted.contains(&(place + 1));
         self.count_if(met, "word handed over with an inverted byte");
-        if step.out != 0 && !met {
-            self.note_parity_word(place);
+        if step.out != 0 && !met && kind.has_parity() {
+            self.note_parity_word(kind, place);
         }
-        let whole = window.offset <= P_PARITY_START && place + 2 == SECTOR_BYTES;
+        let whole = kind.has_parity() && window.offset <= P_PARITY_START && place + 2 == SECTOR_BYTES;
         self.count_if(whole, "all parity of a block handed over");
     }
 
     /// A word that is as it was sealed.
-    fn note_parity_word(&mut self, place: usize) {
+    fn note_parity_word(&mut self, kind: Kind, place: usize) {
+        let first = kind == Kind::Mode1 && place + 1 == P_PARITY_START;
         self.count_if((P_PARITY_START..Q_PARITY_START - 1).contains(&place), "word of P parity, not 0");
         self.count_if(place >= Q_PARITY_START, "word of Q parity, not 0");
-        self.count_if(place + 1 == P_PARITY_START, "word of a zero and the first byte of P parity, not 0");
+        self.count_if(first, "word of a zero and the first byte of P parity, not 0");
         self.count_if(place + 1 == Q_PARITY_START, "word of P and Q parity, not 0");
     }
 }
@@ -215,10 +222,15 @@ fn stored_name(why: u8) -> &'static str {
         1 => "sector stored, why 1",
         2 => "sector stored, why 2",
         3 => "sector stored, why 3",
+        4 => "sector stored, why 4",
+        5 => "sector stored, why 5",
         6 => "sector stored, why 6",
         7 => "sector stored, why 7",
+        8 => "sector stored, why 8",
+        9 => "sector stored, why 9",
         10 => "sector stored, why 10",
         11 => "sector stored, why 11",
+        13 => "sector stored, why 13",
         15 => "sector stored, why 15",
         _ => unreachable!("no scratch gives why {why}"),
     }

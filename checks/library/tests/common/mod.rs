@@ -34,7 +34,7 @@ pub fn judge(sector: &[u8], expected: Address) -> Result<Facts, Refusal> {
 
 pub fn parity(sector: &[u8]) -> Result<bool, Refusal> {
     let answer = cdrom::parity(sector);
-    assert_eq!(answer, ecma130::parity_holds(sector, false).map_err(refusal));
+    assert_eq!(answer, ecma130::parity_holds(sector).map_err(refusal));
     answer
 }
 
@@ -54,6 +54,8 @@ fn facts(facts: ecma130::Facts) -> Facts {
 fn refusal(refusal: ecma130::Refusal) -> Refusal {
     match refusal {
         ecma130::Refusal::WrongLength => Refusal::WrongLength,
-        ecma130::Refusal::BadAddress => Refusal::OutOfRange,
+        ecma130::Refusal::BadAddress | ecma130::Refusal::UnknownKind | ecma130::Refusal::OtherForm => {
+            Refusal::OutOfRange
+        }
     }
 }

@@ -66,6 +66,10 @@ impl Library for Faulty<'_> {
         StandIn.seal(sector, address)
     }
 
+    fn seal_xa(&mut self, sector: &mut [u8], address: Address, kind: u16, subheader: &mut [u8; 4]) -> Answer {
+        StandIn.seal_xa(sector, address, kind, subheader)
+    }
+
     fn parity(&mut self, sector: &mut [u8]) -> Answer {
         StandIn.parity(sector)
     }

@@ -2,22 +2,23 @@
 //! facts outlast.
 //!
 //! A sector is sealed rightly and one run of its bytes is inverted, so that not all of the
-//! sixteen values of `why` can come. A run that touches the sync or the mode byte touches what the
+//! sixteen values of `why` can come. In mode 1 a run that touches the sync or the mode byte touches what the
 //! EDC covers, and no run within the sector is a multiple of its generator: so sync and mode never fail
-//! without it. A run that touches both sync and mode covers the address, and an inverted second or
-//! frame is no BCD number of its range, so that the address fails too. There are left: 0 and 1 (nothing
-//! inverted that is judged), 2 and 3, 6 and 7 with the mode byte, 10 and 11 with the sync, and 15
-//! with both. `tests/scratch.rs` goes through all runs.
+//! without it. In mode 2 the EDC begins behind the mode byte: sync (8) and address (1) fail alone. In every kind
+//! a run that touches both sync and mode covers the address, and an inverted second or frame is no BCD number of
+//! its range, so that the address fails too: 12 and 14 never come. 4, 5 and 13 come from sectors that were
+//! chosen for it (`kinds.rs`). `tests/scratch.rs` goes through all runs.
 
 use super::{write, Writer};
 use crate::call::Call;
 use crate::chip::Chip;
 use ecma130::Address;
 
-/// Where a field of a sector begins: sync, address, mode, user bytes, EDC, zeros, P parity, Q parity; and the end.
-const EDGES: [u16; 9] = [0, 12, 15, 16, 2064, 2068, 2076, 2248, 2352];
+/// Where a field of a sector of any kind begins: sync, address, mode, the subheader's copies with their submodes, user
+/// bytes, EDC, zeros, P parity, Q parity; and the end.
+const EDGES: [u16; 17] = [0, 12, 15, 16, 18, 19, 20, 22, 23, 24, 2064, 2068, 2072, 2076, 2248, 2348, 2352];
 
-/// What is judged of a sector ends here.
+/// Before here a scratch spoils a sector of any kind.
 const JUDGED: u16 = 2068;
 
 /// Each past the end: by a byte, by far, of no bytes, and with a sum that does not fit in sixteen bits.
@@ -37,11 +38,11 @@ const REFUSED: [(u16, u16); 10] = [
 /// A minute and the one that its BCD number becomes when it is inverted.
 const INVERTED_MINUTES: [(u16, u16); 4] = [(99, 66), (66, 99), (98, 67), (78, 87)];
 
-const FIRST_ADDRESS: Address = Address::new(0, 2, 0);
-const DECODER_ON: Call = Call::Write { reg: 0x0A, value: 0x80 };
-const DECODER_OFF: Call = Call::Write { reg: 0x0A, value: 0x00 };
+pub(super) const FIRST_ADDRESS: Address = Address::new(0, 2, 0);
+pub(super) const DECODER_ON: Call = Call::Write { reg: 0x0A, value: 0x80 };
+pub(super) const DECODER_OFF: Call = Call::Write { reg: 0x0A, value: 0x00 };
 /// BLIMEN, and the stop by the ring's room.
-const BY_RING: Call = Call::Write { reg: 0x9A, value: 0x20 };
+pub(super) const BY_RING: Call = Call::Write { reg: 0x9A, value: 0x20 };
 
 /// The run from one byte to before another.
 fn run(from: u16, end: u16) -> Call {
@@ -116,20 +117,20 @@ impl Writer {
 impl Writer {
     pub(super) fn scratch_plan(&mut self, chip: &Chip) -> Call {
         self.make_ready(chip);
-        match self.random.below(14) {
+        match self.random.below(15) {
             0..=4 => self.scratch_outlasts(chip),
             5..=8 => self.facts_outlast(chip),
             9 => self.scratch_is_taken_back(chip),
             10 => self.scratch_is_replaced(chip),
             11 => self.opening_clears(),
-            12 => self.minute_becomes_the_expected_one(chip),
+            12..=13 => self.minute_becomes_the_expected_one(chip),
             _ => self.inverted_parity_is_served(chip),
         }
         self.plan.pop_front().expect("the decoder is taken off first")
     }
 
     /// DECEN low frees a held chip, and lets switches be written and blocks be withdrawn.
-    fn make_ready(&mut self, chip: &Chip) {
+    pub(super) fn make_ready(&mut self, chip: &Chip) {
         self.plan.push_back(DECODER_OFF);
         if chip.tcc + 3 > chip.blocks {
             self.plan.push_back(write(0x9D, 0));
@@ -143,7 +144,7 @@ impl Writer {
         self.plan.push_back(DECODER_ON);
     }
 
-    fn sector_at(&mut self, address: Address) -> Call {
+    pub(super) fn sector_at(&mut self, address: Address) -> Call {
         Call::Sector { address, fill: self.random.between(0, 255) }
     }
 
@@ -185,7 +186,7 @@ impl Writer {
     }
 
     /// What touches neither a scratch nor, where no sector is taken, the facts.
-    fn other_calls(&mut self, chip: &Chip) -> Vec<Call> {
+    pub(super) fn other_calls(&mut self, chip: &Chip) -> Vec<Call> {
         let sector = self.sector_at(chip.expected);
         match self.random.below(8) {
             0 => vec![Call::Srst],
@@ -220,30 +221,20 @@ impl Writer {
     }
 
     /// The first sector of a chip that is as opened.
-    fn begin(&mut self) {
+    pub(super) fn begin(&mut self) {
         let sector = self.sector_at(FIRST_ADDRESS);
         self.plan.extend([BY_RING, write(0x9C, 0x60), DECODER_ON, sector]);
     }
 
-    /// The address fits because it was inverted.
+    /// The address fits because it was inverted. In mode 2 no code covers it, so that the sector is good.
     fn minute_becomes_the_expected_one(&mut self, chip: &Chip) {
         let (minute, inverted) = self.random.pick(&INVERTED_MINUTES);
+        let number = self.random.pick(&[1, 2, 3]);
+        self.set_disc(number);
         let address = Address { minute, ..chip.expected };
         let (from, count) = self.random.pick(&[(12, 1), (12, 1), (11, 2), (0, 13)]);
         let sector = self.sector_at(Address { minute: inverted, ..address });
         self.plan.extend([DECODER_OFF, Call::Address { address }, DECODER_ON]);
         self.plan.extend([Call::Scratch { from, count }, sector, Call::Read { reg: 0x80 }]);
-    }
-
-    /// The sector counts, and the host is handed inverted bytes.
-    fn inverted_parity_is_served(&mut self, chip: &Chip) {
-        let from = self.random.between(JUDGED, 2348);
-        let end = self.random.between(from + 2, 2352);
-        let offset = self.random.pick(&[from, from - 1, end - 2]).min(2348);
-        let sector = self.sector_at(chip.expected);
-        self.plan.extend([DECODER_OFF, write(0x9D, 0), DECODER_ON, run(from, end), sector]);
-        self.plan.extend([Call::Srst, write(0x9C, 0x60), write(0x18, 0x40), write(0x12, 0)]);
-        let command = Call::Command { code: 0x28 };
-        self.plan.extend([Call::Window { offset, words: 2 }, command, write(0x17, 0x04), Call::Word, Call::Word]);
     }
 }

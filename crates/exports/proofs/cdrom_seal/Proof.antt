@@ -1,8 +1,9 @@
 -- `exports::cdrom_seal` meets its contract. Assumes nothing.
 use mathlib.Core.Path.{ap, _∙_}
-use borrow.Author.Needs.{needs}
-use Rattle.sector.specs.Calls.{seal-sector}
+use Rattle.sector.specs.Calls.{seal-sector, no-subheader}
+use Rattle.sector.specs.declared.Address.{Address}
 use Rattle.exports.specs.Words.{reply-word, seal-word}
+use borrow.Author.Needs.{needs}
 use Rattle.exports.proofs.cdrom_seal.Statement.{statement}
 use Rattle.exports.proofs.cdrom_seal.Tie as tie
 
@@ -23,7 +24,8 @@ returns c =
     let s = c .before .before .before .before .before .before .before .args .sector .now in
     let address = c .before .before .before .before .at .ensures in
     let sealed = c .before .before .before .seal .ensures in
-    (c .packed .ensures ∙ ap reply-word (sealed .0) ∙ ap (seal-word s) address, sealed .1 ∙ ap (seal-sector s) address)
+    (c .packed .ensures ∙ ap reply-word (sealed .0) ∙ ap (λ (a : Address). seal-word s a 1 no-subheader) address, sealed .1 ∙ ap (λ (a : Address). seal-sector s a 1 no-subheader) address)
 
 pub cdrom-seal-spec : {M : Type 1} → statement M
-cdrom-seal-spec = tie.close (tie.spec at-requires seal-requires packed-requires same-length returns)
+cdrom-seal-spec =
+    tie.close (tie.spec at-requires seal-requires packed-requires same-length returns)

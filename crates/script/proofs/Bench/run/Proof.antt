@@ -19,8 +19,8 @@ parse-requires c κs = search needs
 run-requires : tie.Need-run-requires
 run-requires c κs = search needs
 
-damage-after-requires : tie.Need-damage-after-requires
-damage-after-requires c κs = search needs
+carried-after-requires : tie.Need-carried-after-requires
+carried-after-requires c κs = search needs
 
 wrapping-add-u64-requires : tie.Need-wrapping-add-u64-requires
 wrapping-add-u64-requires c κs = search needs
@@ -29,7 +29,7 @@ shown-requires : tie.Need-shown-requires
 shown-requires c κs = search needs
 
 print-requires : tie.Need-print-requires
-print-requires c κs = search needs
+print-requires c κs = c .before .before .before .before .before .before .before .before .before .before .before .before .before .before .if1 .left
 
 same-length : tie.Need-same-length
 same-length c = search needs
@@ -47,12 +47,12 @@ returns-2 c =
     let if1 = back .before .before .before .before .before .before .if1 in
     let parse = back .before .before .before .before .before .parse in
     let run = back .run in
-    let damage = c .before .before .before .before .before .before .before .damage-after in
+    let carried = c .before .before .before .before .before .before .before .carried-after in
     let add = c .before .before .before .before .before .before .wrapping-add-u64 in
     let shown = c .before .before .before .before .shown in
     let print = c .before .before .before .print in (
-      runs (a .self) (a .memory .now) (a .sector .now) (a .line .now) (a .out .now) (if1 .left) _ (run .result) (damage .result) _ _ _ (add .result) _ (shown .result)
-          (parse .ensures) (run .ensures) (damage .ensures) (add .ensures) (shown .ensures) (print .ensures .0) (print .ensures .1 .0),
+      runs (a .self) (a .memory .now) (a .sector .now) (a .line .now) (a .out .now) (if1 .left) _ (run .result) (carried .result) _ _ _ (add .result) _ (shown .result)
+          (parse .ensures) (run .ensures) (carried .ensures) (add .ensures) (shown .ensures) (print .ensures .0) (print .ensures .1 .0),
       print .ensures .1 .1,
     )
 
@@ -63,7 +63,7 @@ run-spec =
     returns
     parse-requires
     run-requires
-    damage-after-requires
+    carried-after-requires
     wrapping-add-u64-requires
     shown-requires
     print-requires

@@ -1,7 +1,8 @@
 -- `script::call::called` meets its contract. Assumes nothing.
 use mathlib.Core.Path.{sym, ap, _∙_}
+use mathlib.Core.Bool.{Bool}
 use Rattle.chip.specs.declared.Told.{Told}
-use Rattle.script.specs.Answers.{of-told, unchanged, called}
+use Rattle.script.specs.Answers.{of-told, unchanged, said, called}
 use borrow.Author.Needs.{needs}
 use Rattle.script.proofs.call.called.Statement.{statement}
 use Rattle.script.proofs.call.called.Tie as tie
@@ -48,45 +49,53 @@ disc-requires c κs = search needs
 enum-known-line-4 : tie.Need-enum-known-line-4
 enum-known-line-4 c = search needs
 
-scratching-requires : tie.Need-scratching-requires
-scratching-requires c κs = search needs
+inside-requires : tie.Need-inside-requires
+inside-requires c κs = search needs
+
+said-requires : tie.Need-said-requires
+said-requires c κs = search needs
+
+enum-known-line-5 : tie.Need-enum-known-line-5
+enum-known-line-5 c = search needs
+
+known-requires : tie.Need-known-requires
+known-requires c κs = search needs
+
+said-requires-2 : tie.Need-said-requires-2
+said-requires-2 c κs = search needs
+
+enum-known-line-6 : tie.Need-enum-known-line-6
+enum-known-line-6 c = search needs
+
+four-bytes-requires : tie.Need-four-bytes-requires
+four-bytes-requires c κs = search needs
+
+said-requires-3 : tie.Need-said-requires-3
+said-requires-3 c κs = search needs
 
 returns : tie.Need-returns
 unfolding called
 returns c =
     let a = c .before .before .before .before .before .args in
-    let enum-told = c .before .enum-told in
-    let C = a .chip in
-    let D = a .damage in
     let R = a .ring .now in
     let S = a .sector .now in
-    let e = sym (enum-told .given .1) in
-    ap (unchanged R S) (c .refused .ensures) ∙ ap (called C D R S) e
+    ap (unchanged R S) (c .refused .ensures) ∙ ap (called (a .chip) (a .carried) R S) (sym (c .before .enum-told .given .1))
 
 returns-2 : tie.Need-returns-2
 unfolding called
 returns-2 c =
     let a = c .before .before .before .before .before .before .args in
-    let line = c .before .before .line in
-    let C = a .chip in
-    let D = a .damage in
     let R = a .ring .now in
     let S = a .sector .now in
-    let e = sym (line .given .1) in
-    ap (unchanged R S) (c .«open» .ensures) ∙ ap (called C D R S) e
+    ap (unchanged R S) (c .«open» .ensures) ∙ ap (called (a .chip) (a .carried) R S) (sym (c .before .before .line .given .1))
 
 returns-3 : tie.Need-returns-3
 unfolding called
 returns-3 c =
     let a = c .before .before .before .before .before .before .before .args in
-    let line2 = c .before .before .before .line2 in
-    let call = c .before .call in
-    let C = a .chip in
-    let D = a .damage in
     let R = a .ring .now in
     let S = a .sector .now in
-    let e = sym (line2 .given .1) in
-    ap (unchanged R S) (c .told .ensures ∙ ap (λ (t : Told). of-told t) (call .ensures)) ∙ ap (called C D R S) e
+    ap (unchanged R S) (c .told .ensures ∙ ap (λ (t : Told). of-told t) (c .before .call .ensures)) ∙ ap (called (a .chip) (a .carried) R S) (sym (c .before .before .before .line2 .given .1))
 
 same-length : tie.Need-same-length
 same-length c = search needs
@@ -95,13 +104,9 @@ returns-4 : tie.Need-returns-4
 unfolding called
 returns-4 c =
     let a = c .before .before .before .before .before .before .args in
-    let enum-told2 = c .before .before .enum-told2 in
-    let C = a .chip in
-    let D = a .damage in
     let R = a .ring .now in
     let S = a .sector .now in
-    let e = sym (enum-told2 .given .1) in
-    ap (unchanged R S) (c .look .ensures) ∙ ap (called C D R S) e
+    ap (unchanged R S) (c .look .ensures) ∙ ap (called (a .chip) (a .carried) R S) (sym (c .before .before .enum-told2 .given .1))
 
 same-length-2 : tie.Need-same-length-2
 same-length-2 c = search needs
@@ -110,13 +115,9 @@ returns-5 : tie.Need-returns-5
 unfolding called
 returns-5 c =
     let a = c .before .before .before .before .before .before .args in
-    let enum-told3 = c .before .before .enum-told3 in
-    let C = a .chip in
-    let D = a .damage in
     let R = a .ring .now in
     let S = a .sector .now in
-    let e = sym (enum-told3 .given .1) in
-    ap (unchanged R S) (c .host-word .ensures) ∙ ap (called C D R S) e
+    ap (unchanged R S) (c .host-word .ensures) ∙ ap (called (a .chip) (a .carried) R S) (sym (c .before .before .enum-told3 .given .1))
 
 same-length-3 : tie.Need-same-length-3
 same-length-3 c = search needs
@@ -128,26 +129,33 @@ returns-6 : tie.Need-returns-6
 unfolding called
 returns-6 c =
     let a = c .before .before .before .before .before .before .before .before .before .before .before .before .args in
-    let line3 = c .before .before .before .before .before .before .before .before .line3 in
-    let disc = c .before .before .before .before .disc in
-    let C = a .chip in
-    let D = a .damage in
     let R = a .ring .now in
     let S = a .sector .now in
-    let e = sym (line3 .given .1) in
-    disc .ensures ∙ ap (called C D R S) e
+    c .before .before .before .before .disc .ensures ∙ ap (called (a .chip) (a .carried) R S) (sym (c .before .before .before .before .before .before .before .before .line3 .given .1))
 
 returns-7 : tie.Need-returns-7
 unfolding called
 returns-7 c =
-    let a = c .before .before .before .before .before .before .args in
-    let line4 = c .before .before .line4 in
-    let C = a .chip in
-    let D = a .damage in
+    let a = c .before .before .before .before .before .before .before .args in
     let R = a .ring .now in
     let S = a .sector .now in
-    let e = sym (line4 .given .1) in
-    ap (unchanged R S) (c .scratching .ensures) ∙ ap (called C D R S) e
+    ap (unchanged R S) (c .said .ensures ∙ ap (λ (b : Bool). said (a .chip) b) (c .before .inside .ensures)) ∙ ap (called (a .chip) (a .carried) R S) (sym (c .before .before .before .line4 .given .1))
+
+returns-8 : tie.Need-returns-8
+unfolding called
+returns-8 c =
+    let a = c .before .before .before .before .before .before .before .args in
+    let R = a .ring .now in
+    let S = a .sector .now in
+    ap (unchanged R S) (c .said2 .ensures ∙ ap (λ (b : Bool). said (a .chip) b) (c .before .known .ensures)) ∙ ap (called (a .chip) (a .carried) R S) (sym (c .before .before .before .line5 .given .1))
+
+returns-9 : tie.Need-returns-9
+unfolding called
+returns-9 c =
+    let a = c .before .before .before .before .before .before .before .args in
+    let R = a .ring .now in
+    let S = a .sector .now in
+    ap (unchanged R S) (c .said3 .ensures ∙ ap (λ (b : Bool). said (a .chip) b) (c .before .four-bytes .ensures)) ∙ ap (called (a .chip) (a .carried) R S) (sym (c .before .before .before .line6 .given .1))
 
 pub called-spec : {M : Type 1} → statement M
 called-spec =
@@ -167,7 +175,14 @@ called-spec =
     enum-known-line-3
     disc-requires
     enum-known-line-4
-    scratching-requires
+    inside-requires
+    said-requires
+    enum-known-line-5
+    known-requires
+    said-requires-2
+    enum-known-line-6
+    four-bytes-requires
+    said-requires-3
     returns
     returns-2
     returns-3
@@ -178,4 +193,6 @@ called-spec =
     same-length-3
     same-length-4
     returns-6
-    returns-7)
+    returns-7
+    returns-8
+    returns-9)

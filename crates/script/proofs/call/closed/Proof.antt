@@ -47,6 +47,18 @@ enum-told-6 c = search needs
 refused-requires-6 : tie.Need-refused-requires-6
 refused-requires-6 c κs = search needs
 
+enum-told-7 : tie.Need-enum-told-7
+enum-told-7 c = search needs
+
+refused-requires-7 : tie.Need-refused-requires-7
+refused-requires-7 c κs = search needs
+
+enum-told-8 : tie.Need-enum-told-8
+enum-told-8 c = search needs
+
+refused-requires-8 : tie.Need-refused-requires-8
+refused-requires-8 c κs = search needs
+
 returns : tie.Need-returns
 unfolding closed
 returns c = c .refused .ensures ∙ ap (closed (c .before .before .before .args .chip)) (sym (c .before .enum-told .given .1))
@@ -75,6 +87,14 @@ returns-7 : tie.Need-returns-7
 unfolding closed
 returns-7 c = c .refused6 .ensures ∙ ap (closed (c .before .before .before .args .chip)) (sym (c .before .enum-told6 .given .1))
 
+returns-8 : tie.Need-returns-8
+unfolding closed
+returns-8 c = c .refused7 .ensures ∙ ap (closed (c .before .before .before .args .chip)) (sym (c .before .enum-told7 .given .1))
+
+returns-9 : tie.Need-returns-9
+unfolding closed
+returns-9 c = c .refused8 .ensures ∙ ap (closed (c .before .before .before .args .chip)) (sym (c .before .enum-told8 .given .1))
+
 pub closed-spec : {M : Type 1} → statement M
 closed-spec =
     tie.close
@@ -93,10 +113,16 @@ closed-spec =
     refused-requires-5
     enum-told-6
     refused-requires-6
+    enum-told-7
+    refused-requires-7
+    enum-told-8
+    refused-requires-8
     returns
     returns-2
     returns-3
     returns-4
     returns-5
     returns-6
-    returns-7)
+    returns-7
+    returns-8
+    returns-9)

@@ -195,7 +195,7 @@ abbrev pub two-bits : Address → List ℕ → ℕ
 two-bits a s = weight (not (sync-holds s && (mode-holds s && edc-holds s))) 0x40 + weight (not (address-holds a s)) 0x01
 
 pub record FactsClaim : Type 0 where
-  -- 80h is what it was before there were four facts, for every sector
+  -- 80h is the two bits that paper 01 makes of the tests, for every sector
   pub tarsta : (a : Address) (s : List ℕ) → tarsta-byte (judgement a s) ≡ two-bits a s
   -- a sector is good exactly where why is 0, and where 80h is
   pub why-good : (j : Judgement) → good j ≡ eqb (why j) 0

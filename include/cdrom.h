@@ -116,8 +116,8 @@ uint32_t cdrom_open(uint8_t *sector, size_t length);
  *
  *   mode 1: bytes 0 to 2,063, in 2,064 to 2,067. A damaged sync, mode or address byte fails it too, so that the address alone is a sector
  *           that was read well and lies elsewhere
- *   form 1: bytes 16 to 2,071, in 2,072 to 2,075. Sync, address and mode byte are not covered: a damaged byte there is CDROM_WHY_SYNC or
- *           CDROM_WHY_ADDRESS alone, so that the address alone may be a damaged byte
+ *   form 1: bytes 16 to 2,071, in 2,072 to 2,075. Sync and address are not covered: a damaged byte there is CDROM_WHY_SYNC or
+ *           CDROM_WHY_ADDRESS alone, so that the address alone may be a damaged byte. Nor is byte 15, which chooses the rule (below)
  *   form 2: bytes 16 to 2,347, in 2,348 to 2,351, and sync and address as in form 1. Four zeros there say that no code was written, and
  *           are taken: then no user byte was checked, and the sector is good all the same
  *
@@ -237,7 +237,8 @@ typedef struct cdrom_chip {
 
 /* Of a sound record, each call below says its refusals in their order; 1 stands first in all of them. `ring` is the ring's memory of
  * ring_length bytes, blocks times CDROM_BLOCK_BYTES; another length is refused with 1. What lies in it at an opening does not matter. Lend
- * the same memory each time, as the last call left it. After every accepted call but open and look the chip may start a transfer by itself (ATTEN, TCC and TTC set). */
+ * the same memory each time, as the last call left it. After every accepted call but open and look the chip may start a transfer by
+ * itself (ATTEN, TCC and TTC set). */
 
 /* A chip of so many blocks, all as opened. Refusals: 1 blocks not 3..255; the record then has 0 blocks and is unsound. */
 uint32_t cdrom_chip_open(cdrom_chip *chip, uint16_t blocks);

@@ -1,5 +1,6 @@
-//! One damaged byte of a good sector of mode 1 or form 1 never passes while it is read by the same rule. A byte that names
-//! the rule may, and in form 2 one that leaves no code: here are sectors that are good before and after.
+//! One damaged byte of a good sector of mode 1 or form 1, up to the end of its code, never passes while it is read by the
+//! same rule. A byte that names the rule may, and in form 2 one that leaves no code: here are sectors that are good before
+//! and after.
 
 use ecma130::{edc_bitwise, judge, open, parity_holds, seal, seal_xa, Address, Kind, SECTOR_BYTES};
 
@@ -17,7 +18,7 @@ fn opened(kind: u16, subheader: [u8; 4], user: &[u8]) -> Vec<u8> {
     sector
 }
 
-/// The readings' own example: 20h is the form bit, and all user bytes are alike.
+/// 20h is the form bit, and all user bytes are alike.
 #[test]
 fn mode_1_without_its_last_parity_bytes_becomes_form_2_without_a_code() {
     let mut sector = vec![0x20; SECTOR_BYTES];

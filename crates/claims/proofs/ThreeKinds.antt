@@ -16,6 +16,7 @@ use Rattle.sector.specs.declared.Address.{Address}
 use Rattle.sector.specs.declared.Judgement.{Judgement}
 use Rattle.sector.specs.declared.Subheader.{Subheader}
 use Rattle.sector.proofs.TwoKinds.{bare, bare-long, bare-zeros, bare-good}
+use Rattle.sector.proofs.Examples.{unequal, unequal-long, unequal-kind, unequal-copies, unequal-judged}
 use Rattle.sector.proofs.Layouts.{fits}
 use Rattle.sector.proofs.Received.{received-sealed}
 use Rattle.sector.proofs.Sealed.{length-sealed, judged-own}
@@ -87,4 +88,5 @@ kinds = record {
   there-is = (bare .sector, bare-long, (bare .kind, bare-zeros), bare-good);
   mode-fails = λ x size bad. by-simulation chip-simulates (omega arith) (omega arith) refl (fails x size bad);
   mode-told = λ x size bad. by-simulation (telling-simulates chip-simulates) (omega arith) (omega arith) refl (told x size bad);
+  copies-differ = (unequal, unequal-long, unequal-kind, unequal-copies, unequal-judged);
 }

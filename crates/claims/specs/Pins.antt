@@ -39,11 +39,11 @@ pub record GivenLook (c : Chip) (ring : List ℕ) : Type 0 where
 
 -- Sectors whose code is wrong
 
--- the sector sealed at 00:02:f with byte k of it changed to v
+-- the sector of mode 1 sealed at 00:02:f with byte k of it changed to v
 abbrev pub damaged : List ℕ → ℕ → ℕ → ℕ → Call
 damaged u f k v = sector (scrambled (set (encoded (address 0 2 f) u) k v))
 
--- a byte behind the header, up to the code's last, and another value for it
+-- a byte behind the header, up to the last of mode 1's code, and another value for it
 pub record GivenCode (u : List ℕ) (k v : ℕ) : Type 0 where
   pub size : length u ≡ 2352
   pub bytes : Bytes u

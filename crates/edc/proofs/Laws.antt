@@ -2,7 +2,7 @@
 -- That a slice holds bytes, `Bytes`, is shown by what the borrow checker knows of its elements,
 -- `λ i. c .shared-slice-known .given i .fits`. Assumes nothing.
 use mathlib.Core.Path.{_≡_, refl, sym, ap, _∙_}
-use mathlib.Core.List.{List, [], _∷_}
+use mathlib.Core.List.{List, [], _∷_, _++_}
 use Prim.Native.Nat.{ℕ, zero, suc, _+_, _*_, _/_, _%_, _^_, _<_, _≤_}
 use native.Mathlib.Numerals.{add-one}
 use native.Mathlib.Omega.{arith}
@@ -23,6 +23,12 @@ edc-drop s r i h = ap (edc r) (drop-cons s i 0 h) ∙ ap (λ (n : ℕ). edc (fed
 pub edc-end : (s : List ℕ) (r i : ℕ) → length s ≤ i → edc r (drop i s) ≡ r
 unfolding edc
 edc-end s r i h = ap (edc r) (drop-of-length-le s h)
+
+-- one list behind another
+pub edc-append : (r : ℕ) (s t : List ℕ) → edc r (s ++ t) ≡ edc (edc r s) t
+unfolding edc
+edc-append r [] t = refl
+edc-append r (b ∷ s) t = edc-append (fed 8 r b) s t
 
 -- the code has 32 bits, whatever the list holds
 fed1-lt : (r d : ℕ) → r < 2 ^ 32 → d < 2 → fed1 r d < 2 ^ 32

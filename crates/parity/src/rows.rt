@@ -25,12 +25,10 @@ fn first_row(s: &[u8], masked: bool) -> [u8; 86]
     ensures { λ r. ⌜ r ≡ listed 86 (λ k. value-at masked (now (s .entry)) (12 + k)) ⌝ }
 {
     let mut row = [0u8; 86];
-    bytes::copy(&s[12..98], &mut row);
     if masked {
-        row[0] = 0;
-        row[1] = 0;
-        row[2] = 0;
-        row[3] = 0;
+        bytes::copy(&s[16..98], &mut row[4..]);
+    } else {
+        bytes::copy(&s[12..98], &mut row);
     }
     row
 }
@@ -87,13 +85,14 @@ fn take_row(
     }
 }
 
-// The sums of the 24 data symbols of every P word.
+// The sums of the 24 data symbols of every P word; the first row goes before the loop, which then reads from one place alone.
 fn p_sums(first: &[u8; 86], s: &[u8], a: &mut [u8], b: &mut [u8])
     requires { ⌜ (length (now first) ≡ 86) × (length (now s) ≡ 2352) ⌝ }
     requires { ⌜ Sums (p-lane (view (now first) (now s))) (λ u. 0) 86 (now a) (now b) ⌝ }
     ensures { λ _. ⌜ Sums (p-lane (view (now (first .entry)) (now (s .entry)))) (λ u. 24) 86 (now (a .exit)) (now (b .exit)) ⌝ }
 {
-    let mut i: usize = 0;
+    take_row(first, s, a, b, 0, 0, 0, 86);
+    let mut i: usize = 1;
     while i < 24 {
         take_row(first, s, a, b, i, 0, 0, 86);
         i += 1;

@@ -180,7 +180,12 @@ fn said(chip: Chip, in_range: bool) -> Answer
     if !in_range {
         return refused(true, chip, 3);
     }
-    refused(true, chip, 0)
+    Answer {
+        opened: true,
+        chip: chip,
+        number: 0,
+        out: 0,
+    }
 }
 
 // The calls of an open chip.

@@ -26,7 +26,7 @@ use Rattle.sector.proofs.Layouts.{form-cases, optional-kind, read-two, 
 use Rattle.sector.proofs.Checked.{detected, sync-free, header-free, form-2-yes, zeros-hold, only}
 use Rattle.sector.proofs.Sealed.{count, bytes, kind-back, user-back, address-back, subheader-back, coded, own, other, again, by-user, zeros-behind, parity}
 use Rattle.sector.proofs.Damage.{changed, damage, places, founds}
-use Rattle.sector.proofs.TwoKinds.{start, start-valid, two-kinds, with-one, bare}
+use Rattle.sector.proofs.TwoKinds.{start, start-valid, two-kinds, with-one, one-byte, one-emptied, bare}
 use Rattle.sector.proofs.FourFacts.{facts}
 use Rattle.sector.proofs.Examples.{independent}
 
@@ -169,6 +169,6 @@ premises-met = record {
   apart = not-start;
   of-form-1 = (with-submode 8, data-agrees, submode-bytes 8 (omega arith));
   of-form-2 = (with-submode 32, audio-agrees, submode-bytes 32 (omega arith));
-  with-code = (with-one .sector, with-one .bytes, with-one .kind, with-one .code, with-one .good);
+  with-code = (with-one .sector, with-one .bytes, with-one .kind, with-one .code, with-one .good, one-byte, one-emptied);
   without-code = (bare .sector, bare .bytes, bare .kind, bare .code, bare .good);
 }

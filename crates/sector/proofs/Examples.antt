@@ -7,7 +7,7 @@ use Prim.Native.Nat.{ℕ, _-_, _/_, _%_, _<_, _≤_}
 use native.Mathlib.Omega.{arith}
 use lib.Dec.{eqb}
 use borrow.Author.Tests.{ne-eqb, eqb-true, eqb-false}
-use lib.ListN.{length, take, drop, replicate, length-append, length-replicate}
+use lib.ListN.{length, take, drop, getD, replicate, length-append, length-replicate}
 use lib.Seq.{take-at, drop-at}
 use Rattle.laws.specs.Bytes.{Bytes}
 use Rattle.laws.specs.Choice.{if_then_else_}
@@ -259,3 +259,29 @@ of-kind-3 j =
 
 pub independent : IndependentClaim
 independent j = (of-kind-1 j, of-kind-2 j, of-kind-3 j)
+
+-- one of form 1 at 00:02:00 whose copies of the subheader differ, and nothing else is wrong
+mode-alone : Judgement
+mode-alone = record { sync = false; mode = true; edc = false; address = false }
+
+pub unequal : List ℕ
+unequal = made (layout 2) (fits 2) (code-after 2) (head-2 true) mode-alone
+
+pub unequal-long : length unequal ≡ 2352
+unfolding unequal
+unequal-long = made-long (layout 2) (fits 2) (code-after 2) (head-2 true) mode-alone
+
+pub unequal-kind : kind-read unequal ≡ 2
+unfolding unequal head-2
+unequal-kind = made-kind (layout 2) (fits 2) (code-after 2) (head-2 true) mode-alone
+
+pub unequal-copies : take 4 (drop 16 unequal) ≡ take 4 (drop 20 unequal) → ⊥
+unfolding unequal made front first-bytes head-2
+unequal-copies e = let first : _≡_ {A = ℕ} 0 1 = ap (λ (x : List ℕ). getD x 0 0) e in omega arith
+
+pub unequal-judged : judgement (record { minute = 0; second = 2; frame = 0 }) unequal ≡ record { sync = false; mode = true; edc = false; address = false }
+unfolding unequal mode-alone judged-at head-2
+unequal-judged =
+    made-judged (layout 2) (fits 2) (code-after 2) (head-2 true) mode-alone
+    (ap layout (made-kind (layout 2) (fits 2) (code-after 2) (head-2 true) mode-alone))
+    (ap not (made-mode (layout 2) (fits 2) (code-after 2) (head-2 true) mode-alone) ∙ copy-test true 0)

@@ -3,7 +3,7 @@ use mathlib.Core.Path.{_≡_, refl, sym, ap, ap₂, _∙_}
 use mathlib.Core.Bool.{Bool, true, false}
 use mathlib.Core.List.{List, [], _∷_, _++_, append-assoc, append-nil}
 use mathlib.Core.Logic.{⊎-elim}
-use Prim.Native.Nat.{ℕ, _+_, _-_, _/_, _%_, _^_, _<_, _≤_}
+use Prim.Native.Nat.{ℕ, _+_, _*_, _-_, _/_, _%_, _^_, _<_, _≤_}
 use native.Mathlib.Nat.{le-of-eq}
 use native.Mathlib.Omega.{arith}
 use lib.ListN.{length, take, drop, getD, replicate, length-append, length-drop, length-replicate, drop-of-length-le}
@@ -11,10 +11,9 @@ use lib.Seq.{length-take-le, take-append-le, take-append-add, drop-append-add, d
 use borrow.Rule.Slice.PartMut.{putMid, midOf}
 use Rattle.laws.specs.Bytes.{Bytes}
 use Rattle.laws.specs.Choice.{if_then_else_}
-use Rattle.laws.proofs.Bytes.{bytes-nil, bytes-cons, bytes-append, bytes-take, bytes-drop, bytes-of, bytes-replicate}
+use Rattle.laws.proofs.Bytes.{four-bytes, bytes-nil, bytes-cons, bytes-append, bytes-take, bytes-drop, bytes-of, bytes-replicate}
 use Rattle.laws.proofs.Choice.{if-case, if-true, if-false}
-use Rattle.laws.proofs.Fill.{take-replicate}
-use Rattle.laws.proofs.Parts.{copied, put-rest, mid-rest}
+use Rattle.laws.proofs.Parts.{copied-as, put-rest, mid-rest}
 use Rattle.laws.proofs.Same.{same-of}
 use Rattle.laws.proofs.Tests.{true-when}
 use Rattle.laws.proofs.Window.{drop-take}
@@ -63,34 +62,40 @@ module _ (l : Layout) (a : Address) (h : Subheader) (f : Fits l) where
         ∙ drop-append-add (head l a h) (drop (l .user) s) (end l - l .user)
         ∙ drop-drop (end l - l .user) (l .user) s ∙ ap (λ (n : ℕ). drop n s) rest
 
--- as much as is wanted of a code with eight zeros
-tail-part : (n : ℕ) (c : List ℕ) → length c ≡ 4 → n ≤ 8 → take (4 + n) (c ++ replicate 8 0) ≡ c ++ replicate n 0
-tail-part n c four h =
-    ap (λ (m : ℕ). take (m + n) (c ++ replicate 8 0)) (sym four) ∙ take-append-add c (replicate 8 0) n ∙ ap (λ (x : List ℕ). c ++ x) (take-replicate n 8 0 h)
+-- the head is copied to the front: 16 bytes of all 24, or all of them
+pub head-16 : (l : Layout) (a : Address) (h : Subheader) (s hd d : List ℕ) → Fits l → l .user ≡ 16 → hd ≡ full-head (l .mode) a h
+    → d ≡ take (length (take 16 hd)) (take 16 hd) ++ drop (length (take 16 hd)) s → d ≡ head l a h ++ drop (l .user) s
+head-16 l a h s hd d f u e =
+    copied-as (take 16 hd) (head l a h) s d (l .user)
+    (ap (take 16) e ∙ ap (λ (n : ℕ). take n (full-head (l .mode) a h)) (sym u)) (length-head l a h f)
 
--- the head is copied to the front, and then the tail behind the bytes that its code is taken over
-pub made : (l : Layout) (a : Address) (h : Subheader) (s hd t d e : List ℕ) → Fits l → hd ≡ full-head (l .mode) a h
-    → d ≡ take (length (take (l .user) hd)) (take (l .user) hd) ++ drop (length (take (l .user) hd)) s
-    → t ≡ low4 (edc 0 (midOf (l .covered) (l .code - l .covered) d)) ++ replicate 8 0
-    → e ≡ take (length (take (4 + l .zeros) t)) (take (4 + l .zeros) t) ++ drop (length (take (4 + l .zeros) t)) (midOf (l .code) (length d - l .code) d)
+pub head-24 : (l : Layout) (a : Address) (h : Subheader) (s hd d : List ℕ) → Fits l → l .user ≡ 24 → hd ≡ full-head (l .mode) a h
+    → d ≡ take (length hd) hd ++ drop (length hd) s → d ≡ head l a h ++ drop (l .user) s
+head-24 l a h s hd d f u e =
+    copied-as hd (head l a h) s d (l .user) (e ∙ ap (λ (n : ℕ). take n (full-head (l .mode) a h)) (sym u)) (length-head l a h f)
+
+-- the code with n zeros behind it
+length-code : (e n : ℕ) → length (low4 e ++ replicate n 0) ≡ 4 + n
+length-code e n = length-append (low4 e) (replicate n 0) ∙ ap (λ (k : ℕ). 4 + k) (length-replicate {A = ℕ} n 0)
+
+pub tail-copied : (e n : ℕ) (xs s d : List ℕ) → xs ≡ low4 e ++ replicate n 0 → d ≡ take (length xs) xs ++ drop (length xs) s
+    → d ≡ (low4 e ++ replicate n 0) ++ drop (4 + n) s
+tail-copied e n xs s d same = copied-as xs (low4 e ++ replicate n 0) s d (4 + n) same (length-code e n)
+
+-- d is a buffer s with its head, and e what is behind the bytes that the code is taken over, with code and zeros
+pub made : (l : Layout) (a : Address) (h : Subheader) (s d e : List ℕ) → Fits l → d ≡ head l a h ++ drop (l .user) s
+    → e ≡ (low4 (edc 0 (midOf (l .covered) (l .code - l .covered) d)) ++ replicate (l .zeros) 0) ++ drop (4 + l .zeros) (midOf (l .code) (length d - l .code) d)
     → putMid (l .code) (length d - l .code) d e ≡ framed l a h s ++ drop (end l) s
 unfolding framed
-made l a h s hd t d e f eh ed et ee =
-    let x-is : take (l .user) hd ≡ head l a h = ap (take (l .user)) eh in
-    let d-is : d ≡ head l a h ++ drop (l .user) s =
-    copied (take (l .user) hd) s d ed ∙ ap (λ (x : List ℕ). x ++ drop (length x) s) x-is ∙ ap (λ (n : ℕ). head l a h ++ drop n s) (length-head l a h f) in
+made l a h s d e f d-is e-is =
     let b : take (l .code) d ≡ body l a h s = ap (take (l .code)) d-is ∙ front l a h f s in
-    let c = code-of l (body l a h s) in
-    let t-is : t ≡ c ++ replicate 8 0 =
-    et ∙ ap (λ (x : List ℕ). low4 (edc 0 x) ++ replicate 8 0) (covered-part l d f ∙ ap (drop (l .covered)) b) in
-    let y-is : take (4 + l .zeros) t ≡ c ++ replicate (l .zeros) 0 = ap (take (4 + l .zeros)) t-is ∙ tail-part (l .zeros) c refl (f .zeros-at-most) in
-    let size : length (c ++ replicate (l .zeros) 0) ≡ 4 + l .zeros = length-append c (replicate (l .zeros) 0) ∙ ap (λ (n : ℕ). 4 + n) (length-replicate {A = ℕ} (l .zeros) 0) in
-    let rest : drop (length (take (4 + l .zeros) t)) (midOf (l .code) (length d - l .code) d) ≡ drop (end l) s =
-    ap₂ (λ (x y : List ℕ). drop (length x) y) y-is (mid-rest (l .code) d) ∙ ap (λ (n : ℕ). drop n (drop (l .code) d)) size
-    ∙ drop-drop (4 + l .zeros) (l .code) d ∙ ap (drop (end l)) d-is ∙ behind l a h f s in
+    let c : low4 (edc 0 (midOf (l .covered) (l .code - l .covered) d)) ≡ code-of l (body l a h s) =
+    ap (λ (x : List ℕ). low4 (edc 0 x)) (covered-part l d f ∙ ap (drop (l .covered)) b) in
+    let rest : drop (4 + l .zeros) (midOf (l .code) (length d - l .code) d) ≡ drop (end l) s =
+    ap (drop (4 + l .zeros)) (mid-rest (l .code) d) ∙ drop-drop (4 + l .zeros) (l .code) d ∙ ap (drop (end l)) d-is ∙ behind l a h f s in
     put-rest (l .code) d e
-    ∙ ap₂ (λ (x y : List ℕ). x ++ y) b (copied (take (4 + l .zeros) t) (midOf (l .code) (length d - l .code) d) e ee ∙ ap₂ (λ (x y : List ℕ). x ++ y) y-is rest)
-    ∙ sym (append-assoc (body l a h s) (c ++ replicate (l .zeros) 0) (drop (end l) s))
+    ∙ ap₂ (λ (x y : List ℕ). x ++ y) b (e-is ∙ ap₂ (λ (x y : List ℕ). (x ++ replicate (l .zeros) 0) ++ y) c rest)
+    ∙ sym (append-assoc (body l a h s) (code-of l (body l a h s) ++ replicate (l .zeros) 0) (drop (end l) s))
 
 -- ---- what stands where
 
@@ -111,7 +116,7 @@ module _ (l : Layout) (a : Address) (h : Subheader) (s : List ℕ) (full : lengt
   tail = code-of l (body l a h s) ++ replicate (l .zeros) 0
 
   length-tail : length tail ≡ 4 + l .zeros
-  length-tail = length-append (code-of l (body l a h s)) (replicate (l .zeros) 0) ∙ ap (λ (n : ℕ). 4 + n) (length-replicate {A = ℕ} (l .zeros) 0)
+  length-tail = length-code (edc 0 (drop (l .covered) (body l a h s))) (l .zeros)
 
   pub length-framed : length (framed l a h s) ≡ end l
   unfolding framed
@@ -305,22 +310,6 @@ module _ (l : Layout) (a : Address) (h : Subheader) (s : List ℕ) (f : Fits l) 
 
 -- ---- the code's four bytes tell the code
 
-join : (x y : ℕ) → x % 256 ≡ y % 256 → x / 256 ≡ y / 256 → x ≡ y
-join x y low high = omega arith
-
-quarter : (x : ℕ) → x / 65536 / 256 ≡ x / 16777216
-quarter x = omega arith
-
-half : (x : ℕ) → x / 256 / 256 ≡ x / 65536
-half x = omega arith
-
-top : (x : ℕ) → x < 4294967296 → x / 16777216 % 256 ≡ x / 16777216
-top x h = omega arith
-
 pub low4-tells : (x y : ℕ) → x < 2 ^ 32 → y < 2 ^ 32 → low4 x ≡ low4 y → x ≡ y
 low4-tells x y hx hy e =
-    let at : (k : ℕ) → getD (low4 x) k 0 ≡ getD (low4 y) k 0 = λ (k : ℕ). ap (λ (l : List ℕ). getD l k 0) e in
-    let e3 : x / 16777216 ≡ y / 16777216 = sym (top x hx) ∙ at 3 ∙ top y hy in
-    let e2 : x / 65536 ≡ y / 65536 = join (x / 65536) (y / 65536) (at 2) (quarter x ∙ e3 ∙ sym (quarter y)) in
-    let e1 : x / 256 ≡ y / 256 = join (x / 256) (y / 256) (at 1) (half x ∙ e2 ∙ sym (half y)) in
-    join x y (at 0) e1
+    sym (four-bytes x hx) ∙ ap (λ (l : List ℕ). getD l 0 0 + 256 * getD l 1 0 + 65536 * getD l 2 0 + 16777216 * getD l 3 0) e ∙ four-bytes y hy

@@ -30,7 +30,7 @@ mode-1-fits = record {
   covered-from = omega arith;
   covered-before = omega arith;
   user-before = omega arith;
-  zeros-at-most = omega arith;
+  zeros-are = inr refl;
   inside = omega arith;
   parity-from = λ _. refl;
   no-parity = λ e. never e;
@@ -42,7 +42,7 @@ form-1-fits = record {
   covered-from = omega arith;
   covered-before = omega arith;
   user-before = omega arith;
-  zeros-at-most = omega arith;
+  zeros-are = inl refl;
   inside = omega arith;
   parity-from = λ _. refl;
   no-parity = λ e. never e;
@@ -54,7 +54,7 @@ form-2-fits = record {
   covered-from = omega arith;
   covered-before = omega arith;
   user-before = omega arith;
-  zeros-at-most = omega arith;
+  zeros-are = inl refl;
   inside = omega arith;
   parity-from = λ e. never (sym e);
   no-parity = λ _. refl;
@@ -74,6 +74,9 @@ module _ (l : Layout) (f : Fits l) where
 
   pub user-to : l .user ≤ 24
   user-to = ⊎-elim (λ (e : (l .mode ≡ 1) × (l .user ≡ 16)). omega (arith, e .1)) (λ (e : (l .mode ≡ 2) × (l .user ≡ 24)). omega (arith, e .1)) (f .head)
+
+  pub user-24 : (l .user ≡ 16 → ⊥) → l .user ≡ 24
+  user-24 n = ⊎-elim (λ (e : (l .mode ≡ 1) × (l .user ≡ 16)). absurd (n (e .1))) (λ (e : (l .mode ≡ 2) × (l .user ≡ 24)). e .1) (f .head)
 
 -- what only one of them has
 module _ (P : Layout → Type 0) (k : ℕ) where

@@ -1,20 +1,22 @@
 -- Sectors that are good with mode byte 1 and with mode byte 2, TwoKindsClaim; and good sectors of form 2, with a code and without one. Assumes nothing.
-use mathlib.Core.Path.{_≡_, refl, sym, ap, ap₂, _∙_, subst}
+use mathlib.Core.Path.{_≡_, refl, sym, ap, ap₂, _∙_}
 use mathlib.Core.Bool.{Bool, true, false, not, _||_}
 use mathlib.Core.List.{List, [], _∷_, _++_, append-assoc}
-use Prim.Native.Nat.{ℕ, _+_, _-_, _<_}
+use Prim.Native.Nat.{ℕ, _+_, _<_, _≤_}
 use native.Mathlib.Omega.{arith}
 use lib.ListN.{length, take, drop, getD, set, replicate, length-append, length-drop, length-replicate}
-use lib.Seq.{take-at, drop-at, drop-drop}
+use lib.Bits.{bitXor}
+use lib.Seq.{take-at, take-all, drop-at, drop-drop, getD-drop}
 use Rattle.laws.specs.Bytes.{Bytes}
 use Rattle.laws.specs.Same.{same}
 use Rattle.laws.proofs.Bytes.{bytes-append, bytes-of, bytes-replicate, bytes-take, bytes-drop}
+use Rattle.laws.proofs.Changed.{drop-changed}
 use Rattle.laws.proofs.Fill.{drop-replicate}
 use Rattle.laws.proofs.Same.{same-of, same-is, not-same}
 use Rattle.laws.proofs.Tests.{or-left, or-right}
 use Rattle.edc.specs.Edc.{edc}
-use Rattle.edc.proofs.Laws.{edc-lt}
-use Rattle.edc.proofs.Change.{edc-set}
+use Rattle.edc.proofs.Laws.{edc-lt, edc-append}
+use Rattle.edc.proofs.Octets.{to-one}
 use Rattle.sector.specs.declared.Address.{Address}
 use Rattle.sector.specs.declared.Judgement.{Judgement}
 use Rattle.sector.specs.declared.Subheader.{Subheader}
@@ -242,27 +244,35 @@ pub bare-good : judgement (record { minute = 0; second = 2; frame = 0 }) (bare .
 unfolding start
 bare-good = judged-facts (bare .sector) start no-facts (bare .good)
 
--- of two sealed buffers that differ in one user byte one has a code that is not zero
+-- one whose last four user bytes make its code 1: one byte of it is not zero
 subheader : Subheader
 subheader = record { file = 0; channel = 0; submode = 32; coding = 0 }
 
-buffer : ℕ → List ℕ
-buffer first = replicate 24 0 ++ (first ∷ replicate 2327 0)
+-- what the code covers before them
+ahead : List ℕ
+ahead = 0 ∷ 0 ∷ 32 ∷ 0 ∷ 0 ∷ 0 ∷ 32 ∷ 0 ∷ replicate 2320 0
 
-buffer-long : (x : ℕ) → length (buffer x) ≡ 2352
+last : ℕ
+last = bitXor (edc 0 ahead) 0xB0030003
+
+buffer : List ℕ
+buffer = replicate 2344 0 ++ (low4 last ++ replicate 4 0)
+
+buffer-long : length buffer ≡ 2352
 unfolding buffer
-buffer-long x = refl
+buffer-long = refl
 
-buffer-bytes : (x : ℕ) → x < 256 → Bytes (buffer x)
+buffer-bytes : Bytes buffer
 unfolding buffer
-buffer-bytes x b =
-    bytes-append (replicate 24 0) (x ∷ replicate 2327 0) (bytes-replicate 24 0 (omega arith)) (bytes-append (x ∷ []) (replicate 2327 0) (bytes-replicate 1 x b) (bytes-replicate 2327 0 (omega arith)))
+buffer-bytes =
+    bytes-append (replicate 2344 0) (low4 last ++ replicate 4 0) (bytes-replicate 2344 0 (omega arith))
+    (bytes-append (low4 last) (replicate 4 0) (bytes-low4 last) (bytes-replicate 4 0 (omega arith)))
 
-sector : ℕ → List ℕ
-sector x = encoded (layout 3) start subheader (buffer x)
+sealed-so : List ℕ
+sealed-so = encoded (layout 3) start subheader buffer
 
-before : ℕ → List ℕ
-before x = body (layout 3) start subheader (buffer x)
+before : List ℕ
+before = body (layout 3) start subheader buffer
 
 pub start-valid : valid start ≡ true
 unfolding start
@@ -272,72 +282,59 @@ agreeing : agrees 3 subheader ≡ true
 unfolding subheader
 agreeing = refl
 
-sector-bytes : (x : ℕ) → x < 256 → Bytes (sector x)
-unfolding sector subheader
-sector-bytes x b = bytes-encoded (layout 3) start subheader (buffer x) (fits 3) start-valid (bytes-of (subheader-bytes subheader) refl) (buffer-bytes x b) (buffer-long x)
+so-long : length sealed-so ≡ 2352
+unfolding sealed-so
+so-long = length-encoded (layout 3) start subheader buffer buffer-long (fits 3)
 
--- the bytes before the code; those that it covers differ in one
-before-front : (x : ℕ) → take 2348 (sector x) ≡ before x
-unfolding sector before layout
-before-front x = front-encoded (layout 3) start subheader (buffer x) (buffer-long x) (fits 3)
+so-bytes : Bytes sealed-so
+unfolding sealed-so subheader
+so-bytes = bytes-encoded (layout 3) start subheader buffer (fits 3) start-valid (bytes-of (subheader-bytes subheader) refl) buffer-bytes buffer-long
 
-before-bytes : (x : ℕ) → x < 256 → Bytes (drop 16 (before x))
-before-bytes x b = bytes-drop 16 (before x) (subst (λ (y : List ℕ). Bytes y) (before-front x) (bytes-take 2348 (sector x) (sector-bytes x b)))
+before-front : take 2348 sealed-so ≡ before
+unfolding sealed-so before layout
+before-front = front-encoded (layout 3) start subheader buffer buffer-long (fits 3)
 
-one-changed : drop 16 (before 1) ≡ set (drop 16 (before 0)) 8 1
-unfolding before body layout buffer subheader start
-one-changed = refl
+covered-so : drop 16 before ≡ ahead ++ low4 last
+unfolding before body layout buffer subheader start ahead
+covered-so = refl
 
-byte-8 : getD (drop 16 (before 0)) 8 0 ≡ 0
-unfolding before body layout buffer subheader start
-byte-8 = refl
-
-before-long : length (drop 16 (before 0)) ≡ 2332
-unfolding before layout
-before-long =
-    length-drop 16 (body (layout 3) start subheader (buffer 0)) ∙ ap (λ (n : ℕ). n - 16) (length-body (layout 3) start subheader (buffer 0) (buffer-long 0) (fits 3))
-
-codes-differ : low4 (edc 0 (drop 16 (before 1))) ≡ low4 (edc 0 (drop 16 (before 0))) → ⊥
-codes-differ e =
-    let x = drop 16 (before 0) in
-    let inside : 8 < length x = omega (arith, before-long) in
-    edc-set x 8 1 (before-bytes 0 (omega arith)) inside (omega arith) (λ (z : 1 ≡ getD x 8 0). let w : _≡_ {A = ℕ} 1 0 = z ∙ byte-8 in omega arith)
-    (low4-tells (edc 0 (set x 8 1)) (edc 0 x) (edc-lt (set x 8 1)) (edc-lt x) (ap (λ (y : List ℕ). low4 (edc 0 y)) (sym one-changed) ∙ e))
+code-one : edc 0 (drop 16 before) ≡ 1
+unfolding last
+code-one = ap (edc 0) covered-so ∙ edc-append 0 ahead (low4 last) ∙ to-one (edc 0 ahead) last (edc-lt ahead) refl
 
 -- the code that stands there
-stored : (x : ℕ) → take 4 (drop 2348 (sector x)) ≡ low4 (edc 0 (drop 16 (before x)))
-unfolding sector code-right layout
-stored x =
-    same-is (take 4 (drop 2348 (sector x))) (code-of (layout 3) (take 2348 (sector x))) (code-encoded (layout 3) start subheader (buffer x) (buffer-long x) (fits 3))
-    ∙ ap (λ (y : List ℕ). low4 (edc 0 (drop 16 y))) (before-front x)
+stored : drop 2348 sealed-so ≡ 1 ∷ 0 ∷ 0 ∷ 0 ∷ []
+unfolding sealed-so code-right layout
+stored =
+    let size : length (drop 2348 sealed-so) ≤ 4 = simp length-drop (omega (arith, so-long)) in
+    sym (take-all 4 (drop 2348 sealed-so) size)
+    ∙ same-is (take 4 (drop 2348 sealed-so)) (code-of (layout 3) (take 2348 sealed-so)) (code-encoded (layout 3) start subheader buffer buffer-long (fits 3))
+    ∙ ap (λ (y : List ℕ). low4 (edc 0 (drop 16 y))) before-front
+    ∙ ap low4 code-one
 
-sector-kind : (x : ℕ) → kind-read (sector x) ≡ 3
-unfolding sector
-sector-kind x = kind-encoded 3 start subheader (buffer x) (buffer-long x) agreeing
-
-sector-good : (x : ℕ) → judge-answer (sector x) start ≡ verdict no-facts
-unfolding sector
-sector-good x =
-    sym (judge-done (encoded (layout 3) start subheader (buffer x)) start (length-encoded (layout 3) start subheader (buffer x) (buffer-long x) (fits 3)) start-valid)
-    ∙ ap (λ (j : Judgement). verdict j) (judged-own 3 start subheader (buffer x) (buffer-long x) agreeing)
-
-good-one : (x : ℕ) → x < 256 → same (take 4 (drop 2348 (sector x))) (replicate 4 0) ≡ false → Good true
-unfolding unwritten layout
-good-one x b e = record {
-  sector = sector x;
-  bytes = sector-bytes x b;
-  kind = sector-kind x;
-  code = ap (λ (n : ℕ). unwritten (layout n) (sector x)) (sector-kind x) ∙ e;
-  good = sector-good x;
-}
+so-kind : kind-read sealed-so ≡ 3
+unfolding sealed-so
+so-kind = kind-encoded 3 start subheader buffer buffer-long agreeing
 
 pub with-one : Good true
-with-one = by (same (take 4 (drop 2348 (sector 0))) (replicate 4 0)) refl
-  where
-    by : (b : Bool) → same (take 4 (drop 2348 (sector 0))) (replicate 4 0) ≡ b → Good true
-    by false e = good-one 0 (omega arith) e
-    by true e =
-        good-one 1 (omega arith)
-        (not-same (take 4 (drop 2348 (sector 1))) (replicate 4 0)
-        (λ (z : take 4 (drop 2348 (sector 1)) ≡ replicate 4 0).
-        codes-differ (sym (stored 1) ∙ z ∙ sym (same-is (take 4 (drop 2348 (sector 0))) (replicate 4 0) e) ∙ stored 0)))
+unfolding unwritten layout sealed-so
+with-one = record {
+  sector = sealed-so;
+  bytes = so-bytes;
+  kind = so-kind;
+  code = ap (λ (n : ℕ). unwritten (layout n) sealed-so) so-kind ∙ ap (λ (x : List ℕ). same (take 4 x) (replicate 4 0)) stored;
+  good =
+      sym (judge-done sealed-so start so-long start-valid)
+      ∙ ap (λ (j : Judgement). verdict j) (judged-own 3 start subheader buffer buffer-long agreeing);
+}
+
+-- without that byte it has none
+pub one-byte : getD (with-one .sector) 2348 0 ≡ 1
+unfolding with-one
+one-byte = sym (getD-drop 2348 sealed-so 0 0) ∙ ap (λ (x : List ℕ). getD x 0 0) stored
+
+pub one-emptied : unwritten (layout-read (with-one .sector)) (set (with-one .sector) 2348 0) ≡ true
+unfolding with-one unwritten layout
+one-emptied =
+    ap (λ (n : ℕ). unwritten (layout n) (set sealed-so 2348 0)) so-kind
+    ∙ ap (λ (x : List ℕ). same (take 4 x) (replicate 4 0)) (drop-changed 2348 4 2348 0 sealed-so (omega arith) ∙ ap (λ (x : List ℕ). set x 0 0) stored)

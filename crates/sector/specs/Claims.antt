@@ -111,9 +111,9 @@ of-mode l k = eqb k 15 || (eqb (l .mode) 2 && (leb 16 k && ltb k 24))
 abbrev pub of-edc : Layout → ℕ → Bool
 of-edc l k = leb (l .covered) k && ltb k (l .code + 4)
 
--- of any sector, good or bad, whose byte k becomes v: a fact stays where k is outside what it is judged by, and is set where k is inside and it was
--- not. Where it was set already it may stay or go: the change may be the one that mends. The EDC is set where the code was right, unless none stands
--- there after the change, in form 2.
+-- of any sector, good or bad, whose byte k becomes v: a fact stays where k is outside what it is judged by. Where k is inside, sync, mode and address are
+-- set if they were not, and the EDC if the code was right and one still stands there: a form 2 sector without a code has none to be wrong. A fact that was
+-- set may stay or go: the change may be the one that mends.
 pub record Changed (s : List ℕ) (a : Address) (k v : ℕ) : Type 0 where
   pub sync-stays : 12 ≤ k → judgement a (set s k v) .sync ≡ judgement a s .sync
   pub sync-set : k < 12 → judgement a s .sync ≡ false → judgement a (set s k v) .sync ≡ true
@@ -134,7 +134,7 @@ ChangeClaim =
 abbrev pub facts-of-change : Layout → ℕ → Judgement
 facts-of-change l k = record { sync = ltb k 12; mode = of-mode l k; edc = of-edc l k; address = leb 12 k && ltb k 15 }
 
--- in each kind, by their numbers
+-- in each kind, by their numbers. No change of mode 2's byte 15 keeps the kind: of that byte FoundClaim and TwoKindsClaim speak
 pub record PlacesClaim : Type 0 where
   pub mode-1 : (k : ℕ) → facts-of-change (layout 1) k ≡ record { sync = ltb k 12; mode = eqb k 15; edc = ltb k 2068; address = leb 12 k && ltb k 15 }
   pub form-1 : (k : ℕ) → facts-of-change (layout 2) k
@@ -226,7 +226,7 @@ abbrev pub NextClaim : Type 0
 NextClaim = (a : Address) → valid a ≡ true → valid (next a) ≡ true
 
 -- the premises of these claims can be met: there are a buffer to seal, two addresses, and a subheader for each form; a good sector of bytes is the
--- Example of no-facts; and there are good ones of form 2 with a code and without one
+-- Example of no-facts; and there are good ones of form 2 with a code, of which one byte is not zero, and without one
 pub record MetClaim : Type 0 where
   pub buffer : List ℕ
   pub address : Address
@@ -239,4 +239,5 @@ pub record MetClaim : Type 0 where
   pub of-form-1 : (h : Subheader) × (agrees 2 h ≡ true) × Bytes (subheader-bytes h)
   pub of-form-2 : (h : Subheader) × (agrees 3 h ≡ true) × Bytes (subheader-bytes h)
   pub with-code : (s : List ℕ) × Bytes s × (kind-read s ≡ 3) × (unwritten (layout-read s) s ≡ false) × (judge-answer s address ≡ verdict no-facts)
+      × (getD s 2348 0 ≡ 1) × (unwritten (layout-read s) (set s 2348 0) ≡ true)
   pub without-code : (s : List ℕ) × Bytes s × (kind-read s ≡ 3) × (unwritten (layout-read s) s ≡ true) × (judge-answer s address ≡ verdict no-facts)

@@ -64,7 +64,7 @@ pub record Fits (l : Layout) : Type 0 where
   pub covered-from : l .covered ≤ 16
   pub covered-before : l .covered ≤ l .user
   pub user-before : l .user ≤ l .code
-  pub zeros-at-most : l .zeros ≤ 8
+  pub zeros-are : (l .zeros ≡ 0) ⊎ (l .zeros ≡ 8)
   pub inside : end l ≤ 2352
   pub parity-from : l .parity ≡ true → end l ≡ 2076
   pub no-parity : l .parity ≡ false → end l ≡ 2352

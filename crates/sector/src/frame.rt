@@ -2,10 +2,12 @@
 ghost use mathlib.Core.Path.{_≡_};
 ghost use mathlib.Core.Bool.{true};
 ghost use mathlib.Core.List.{_++_};
+ghost use mathlib.Core.Logic.{_⊎_};
+ghost use Prim.Native.Nat.{_+_, _≤_};
 ghost use lib.ListN.{length, drop, replicate};
 ghost use Rattle.sector.specs.Address.{valid};
 ghost use Rattle.sector.specs.Layout.{Fits, end};
-ghost use Rattle.sector.specs.Sector.{full-head, low4, framed, encoded};
+ghost use Rattle.sector.specs.Sector.{full-head, head, low4, framed, encoded};
 use super::Address;
 use super::Subheader;
 use super::header;
@@ -49,12 +51,35 @@ pub fn code_bytes(code: u32) -> [u8; 4]
     ]
 }
 
-// The code and eight zeros.
-fn full_tail(code: u32) -> [u8; 12]
-    ensures { λ r. ⌜ r ≡ low4 code ++ replicate 8 0 ⌝ }
+// Writes the head: 16 bytes, or with the subheader 24. Each is a copy of fixed length, so that none is made by a call.
+// Ruled out: one that writes a subheader over mode 1's user bytes, and one that leaves out the second copy.
+fn put_head(sector: &mut [u8], layout: Layout, address: Address, subheader: Subheader)
+    requires { ⌜ length (now sector) ≡ 2352 ⌝ }
+    requires { ⌜ Fits layout ⌝ }
+    requires { ⌜ valid address ≡ true ⌝ }
+    ensures { λ _. ⌜ now (sector .exit) ≡ head layout address subheader ++ drop (layout .user) (now (sector .entry)) ⌝ }
+{
+    let head = full_head(layout.mode, address, subheader);
+    if layout.user == 16 {
+        bytes::copy(&head[..16], sector);
+    } else {
+        bytes::copy(&head, sector);
+    }
+}
+
+// Writes the code, and eight zeros behind it or none; of fixed length too.
+// Ruled out: one that leaves the zeros out, and one that writes them over form 2's end.
+fn put_tail(part: &mut [u8], code: u32, zeros: usize)
+    requires { ⌜ (zeros ≡ 0) ⊎ (zeros ≡ 8) ⌝ }
+    requires { ⌜ 4 + zeros ≤ length (now part) ⌝ }
+    ensures { λ _. ⌜ now (part .exit) ≡ (low4 code ++ replicate zeros 0) ++ drop (4 + zeros) (now (part .entry)) ⌝ }
 {
     let b = code_bytes(code);
-    [b[0], b[1], b[2], b[3], 0, 0, 0, 0, 0, 0, 0, 0]
+    if zeros == 8 {
+        bytes::copy(&[b[0], b[1], b[2], b[3], 0, 0, 0, 0, 0, 0, 0, 0], part);
+    } else {
+        bytes::copy(&b, part);
+    }
 }
 
 // Writes head, code and zeros around the user bytes; the code covers the head, which is written first.
@@ -64,14 +89,11 @@ fn put_frame(sector: &mut [u8], layout: Layout, address: Address, subheader: Sub
     requires { ⌜ valid address ≡ true ⌝ }
     ensures { λ _. ⌜ now (sector .exit) ≡ framed layout address subheader (now (sector .entry)) ++ drop (end layout) (now (sector .entry)) ⌝ }
 {
-    let user = layout.user;
-    let covered = layout.covered;
-    let code = layout.code;
-    let behind = 4 + layout.zeros;
-    let head = full_head(layout.mode, address, subheader);
-    bytes::copy(&head[..user], sector);
-    let tail = full_tail(edc::edc(&sector[covered..code]));
-    bytes::copy(&tail[..behind], &mut sector[code..]);
+    put_head(sector, layout, address, subheader);
+    let from = layout.covered;
+    let to = layout.code;
+    let code = edc::edc(&sector[from..to]);
+    put_tail(&mut sector[to..], code, layout.zeros);
 }
 
 // Writes all that a sector has around its user bytes: the parity covers what stands before it, and is written last.

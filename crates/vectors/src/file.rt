@@ -1,7 +1,5 @@
 // The file of vectors: a header of 32 bytes, then records of 7,052 bytes, read one at a time. Whatever is wrong with it is a check
 // that failed, and ends the reading.
-ghost use mathlib.Core.Path.{_≡_};
-ghost use lib.ListN.{length};
 use super::fields;
 use super::record;
 use super::tally;
@@ -72,16 +70,6 @@ fn ended(tally: Tally, r: Reading) -> Reading {
     }
 }
 
-// A record of another kind than the three is a check that failed.
-fn run_record(number: u32, bytes: &[u8], t: Tally) -> Tally
-    requires { ⌜ length (now bytes) ≡ 7052 ⌝ }
-{
-    if bytes[0] > 3 {
-        return failure(b" kinds 1 to 3", t);
-    }
-    record::checks(number, bytes, t)
-}
-
 // One more of a kind.
 fn counted(count: u32, kind: u8, of: u8) -> u32 {
     if kind != of {
@@ -98,12 +86,15 @@ fn take(bytes: &[u8], r: Reading) -> Reading {
     }
     let number = r.records;
     let kind = bytes[0];
+    if (kind < 1) | (3 < kind) {
+        return ended(failure(b" kinds 1 to 3", t), r);
+    }
     let mut next = r;
     next.records = std::num::wrapping_add_u32(number, 1);
     next.mode1 = counted(r.mode1, kind, 1);
     next.form1 = counted(r.form1, kind, 2);
     next.form2 = counted(r.form2, kind, 3);
-    next.tally = run_record(number, bytes, t);
+    next.tally = record::checks(number, bytes, t);
     next
 }
 

@@ -11,11 +11,8 @@ refused-requires c κs = search needs
 returns : tie.Need-returns
 returns c = c .refused .ensures ∙ said-not (c .before .before .args .chip) (c .before .before .args .in-range) (c .before .if1 .taken)
 
-refused-requires-2 : tie.Need-refused-requires-2
-refused-requires-2 c κs = search needs
-
 returns-2 : tie.Need-returns-2
-returns-2 c = c .refused2 .ensures ∙ said-so (c .before .before .args .chip) (c .before .before .args .in-range) (c .before .if1 .left)
+returns-2 c = said-so (c .before .args .chip) (c .before .args .in-range) (c .if1 .left)
 
 pub said-spec : {M : Type 1} → statement M
-said-spec = tie.close (tie.spec refused-requires returns refused-requires-2 returns-2)
+said-spec = tie.close (tie.spec refused-requires returns returns-2)

@@ -77,6 +77,22 @@ pub fn print() {
     }
 }
 
+/// Makes so many calls of the library at a task, and nothing else; whether there is such a task.
+pub fn repeat(task: &str, calls: u32) -> bool {
+    let bytes = Bytes::new();
+    let mut rows = rows(&bytes);
+    let Some(row) = rows.iter_mut().find(|row| row.task == task && row.code == LIBRARY) else { return false };
+    (0..calls).for_each(|_| (row.call)());
+    true
+}
+
+/// The tasks that the library has a row for.
+pub fn tasks() -> Vec<&'static str> {
+    let bytes = Bytes::new();
+    let rows = rows(&bytes);
+    rows.iter().filter(|row| row.code == LIBRARY).map(|row| row.task).collect()
+}
+
 fn best(rows: &[Row], timings: &[Timing], task: &str, code: &str) -> f64 {
     let place = rows.iter().position(|row| row.task == task && row.code == code);
     timings[place.expect("each task has a row of that code")].best
@@ -182,5 +198,11 @@ mod tests {
         assert_eq!(kinds, [Ok(Kind::Mode1), Ok(Kind::Form1), Ok(Kind::Form2)]);
         assert_ne!(bytes.form2[2348..], [0; 4]);
         rows(&bytes).iter_mut().for_each(|row| (row.call)());
+    }
+
+    #[test]
+    fn a_task_is_repeated_alone() {
+        assert!(tasks().into_iter().all(|task| repeat(task, 2)));
+        assert!(!repeat("seal form 3", 1));
     }
 }

@@ -1,6 +1,7 @@
-/* An engineer's own code for a part of the chip; own.h says which. Built with -DFAULT=1 to 15 it has a slip, so that one can see
- * examples/against.c find it: 1 to 5 are those that paper 01 tells of other boards, 6 and 7 are in telling what failed of a sector, 8 to 10
- * in the byte bound of a start, 11 to 15 in the kinds of sectors. */
+/* An engineer's own code for a part of the chip; own.h says which. Nothing in it is divided, so that a processor without a divide
+ * instruction needs no library for it. Built with -DFAULT=1 to 17 it has a slip, so that one can see examples/against.c find it: 1 to 5 are
+ * those that paper 01 tells of other boards, 6 and 7 are in telling what failed of a sector, 8 to 10 in the byte bound of a start, 11 to 15
+ * in the kinds of sectors, 16 and 17 in addresses. */
 #include "own.h"
 
 #ifndef FAULT
@@ -53,9 +54,16 @@ static void descramble(uint8_t *block, const uint8_t *sector)
     }
 }
 
+/* Below 100. A ten is sixteen here, so that each adds six; the tens are found by their binary digits, and nothing is divided. */
 static uint8_t bcd(uint8_t number)
 {
-    return (uint8_t)(number / 10 << 4 | number % 10);
+    uint8_t rest = number, digits = number;
+    for (uint8_t tens = 8; tens > 0; tens >>= 1) {
+        bool has = rest >= 10 * tens + (FAULT == 16);
+        rest = (uint8_t)(rest - (has ? 10 * tens : 0));
+        digits = (uint8_t)(digits + (has ? 6 * tens : 0));
+    }
+    return digits;
 }
 
 static bool has_sync(const uint8_t *block)
@@ -138,7 +146,7 @@ static struct own_address next(struct own_address address)
     if (++address.frame <= 74)
         return address;
     address.frame = 0;
-    if (++address.second <= 59)
+    if (++address.second <= (FAULT == 17 ? 60 : 59))
         return address;
     address.second = 0;
     address.minute = (uint8_t)(address.minute == 99 ? 0 : address.minute + 1);
@@ -147,9 +155,11 @@ static struct own_address next(struct own_address address)
 
 /* -- The ring ------------------------------------------------------------------------------------------------------------------ */
 
+/* No step is longer than a turn. */
 static uint16_t around(const struct own *own, uint16_t block, uint16_t steps)
 {
-    return (uint16_t)((block + steps) % own->blocks);
+    uint16_t place = (uint16_t)(block + steps);
+    return (uint16_t)(place < own->blocks ? place : place - own->blocks);
 }
 
 static size_t block_at(uint16_t block)
@@ -333,10 +343,13 @@ static uint16_t blocks_asked_for(const struct own *own)
     return own->ttc > 0 ? least(limit, least(own->tcc, own->ttc)) : (uint16_t)(own->mbc + 1);
 }
 
-/* The byte bound, with and without STWCEN. There is a window. */
-static uint16_t blocks_within_bytes(const struct own *own)
+/* So many blocks, less those whose bytes pass the bound, with and without STWCEN: five at most, which are taken off one by one. */
+static uint16_t blocks_within_bytes(const struct own *own, uint16_t blocks)
 {
-    return FAULT == 8 ? 32 : (uint16_t)(MOST_BYTES / (2u * own->words));
+    uint32_t bytes = 2u * own->words * blocks;
+    for (; bytes > MOST_BYTES && FAULT != 8; bytes -= 2u * own->words)
+        blocks--;
+    return blocks;
 }
 
 /* By the bound the sixteen bits hold all of it. */
@@ -355,7 +368,7 @@ static uint32_t start(struct own *own, uint16_t value)
         return BARRED;
     if (!(own->acctl & ACMEN && own->asctrl & ADCEN && own->status & BSY) || own->words == 0)
         return SWITCHES;
-    uint16_t asked = blocks_asked_for(own), blocks = least(asked, blocks_within_bytes(own));
+    uint16_t asked = blocks_asked_for(own), blocks = blocks_within_bytes(own, asked);
     if (FAULT == 10 && own->ttc == 0)
         own->mbc = (uint8_t)(blocks - 1);
     if (blocks == 0 || (FAULT == 9 ? asked : blocks) > own->tcc)

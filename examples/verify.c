@@ -5,8 +5,8 @@
  *
  * or anywhere, after `make install`: gcc -std=c11 -O2 verify.c $(pkg-config --cflags --libs cdrom) -o verify
  *
- * The first sector says from which address the image is; each other must have the address after. A line tells of each sector that is not
- * as it should be what failed, and the last line how many sectors of each kind there are. Of a form 2 sector without a code no user byte
+ * The first sector says from which address the image is; each other must have the address after. Where a first sector's bytes are no
+ * address, the next one says it. A line tells of each sector that is not as it should be what failed, and the last line how many sectors of each kind there are. Of a form 2 sector without a code no user byte
  * can be checked: these are counted apart.
  *
  * Exit status: 0 all sectors are good, and their parity holds; 1 one is not, or the image is empty or no whole number of sectors; 2 wrong
@@ -38,12 +38,16 @@ static struct address address_in(const uint8_t *sector)
     return (struct address){from_bcd(sector[12]), from_bcd(sector[13]), from_bcd(sector[14])};
 }
 
-static struct address next(struct address at)
+/* Before the first sector there is no address, and none follows it. */
+static const struct address none = {.minute = UINT16_MAX};
+
+/* The address that is due after another; after what is no address, the sector's own. */
+static struct address due_after(struct address last, const uint8_t *sector)
 {
-    at.frame = (uint16_t)((at.frame + 1) % 75);
-    at.second = (uint16_t)(at.frame > 0 ? at.second : (at.second + 1) % 60);
-    at.minute = (uint16_t)(at.frame > 0 || at.second > 0 ? at.minute : (at.minute + 1) % 100);
-    return at;
+    uint32_t answer = cdrom_next_address(last.minute, last.second, last.frame);
+    if (CDROM_NUMBER(answer) != CDROM_DONE)
+        return address_in(sector);
+    return (struct address){(uint16_t)CDROM_MINUTE(answer), (uint16_t)CDROM_SECOND(answer), (uint16_t)CDROM_FRAME(answer)};
 }
 
 static int has_no_code(const uint8_t *sector)
@@ -73,10 +77,10 @@ static enum status verify(FILE *image, const char *name)
 {
     uint8_t sector[CDROM_SECTOR_BYTES];
     struct counts counts = {0};
-    struct address at = {0};
+    struct address at = none;
     size_t length;
     while ((length = fread(sector, 1, sizeof sector, image)) == sizeof sector) {
-        at = counts.all == 0 ? address_in(sector) : next(at);
+        at = due_after(at, sector);
         count_sector(&counts, sector, at);
     }
     if (ferror(image)) {

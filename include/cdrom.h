@@ -17,7 +17,10 @@
 extern "C" {
 #endif
 
-/* Goes up when a name, a size, a number or a call of this header changes its meaning.
+/* Goes up when a name, a size, a number or a call of this header is new or changes its meaning.
+ *
+ * From 5 to 6: cdrom_next_address is new, with CDROM_MINUTE, CDROM_SECOND and CDROM_FRAME. The chip's record and all other calls are as
+ * in 5.
  *
  * From 4 to 5: sectors of mode 2 are taken by the rules of CD-ROM XA, where their mode was a fault and their code and parity went by the
  * rule of mode 1: so cdrom_judge, cdrom_parity and cdrom_chip_sector answer otherwise where byte 15 is 2. cdrom_seal_xa and the kinds are
@@ -32,8 +35,8 @@ extern "C" {
  * From 1 to 2: the result of cdrom_judge is why (CDROM_WHY_..); a record that was kept under 1 must not be handed over; cdrom_chip_why is
  * new; the bench prints `why=` before `irq=`, and takes the line `call=scratch`.
  *
- * docs/FIRMWARE.md says what to change in code for 1 to 4. */
-#define CDROM_VERSION 5
+ * docs/FIRMWARE.md says what to change in code for 1 to 5. */
+#define CDROM_VERSION 6
 
 #define CDROM_SECTOR_BYTES 2352
 
@@ -85,6 +88,11 @@ extern "C" {
 /* An answer: the reply number in the low byte, the result's bits above it. A refusal has the result 0: look at the number first. */
 #define CDROM_NUMBER(answer) ((answer) & 0xFF)
 #define CDROM_RESULT(answer) ((answer) >> 8)
+
+/* The parts of an answer whose result is an address, a byte for each. */
+#define CDROM_MINUTE(answer) ((answer) >> 24)
+#define CDROM_SECOND(answer) ((answer) >> 16 & 0xFF)
+#define CDROM_FRAME(answer) ((answer) >> 8 & 0xFF)
 
 /* -- Sectors ------------------------------------------------------------------------------------------------------------------- */
 
@@ -151,6 +159,11 @@ uint32_t cdrom_judge(const uint8_t *sector, size_t length, uint16_t minute, uint
  * Parity is none of the four that cdrom_judge tests. A good sector may have wrong parity, since the bytes behind the code are not judged,
  * and a bad one right parity: 2,352 zeros are a yes. */
 uint32_t cdrom_parity(const uint8_t *sector, size_t length);
+
+/* The address after an address, as the chip's expected one goes on after a good sector: the next frame; the next second after frame 74, the
+ * next minute after second 59, and 00:00:00 after 99:59:74. The result has the three (CDROM_MINUTE, CDROM_SECOND and CDROM_FRAME of the
+ * answer). Refusals: 3 the address. */
+uint32_t cdrom_next_address(uint16_t minute, uint16_t second, uint16_t frame);
 
 /* The error detection code of any number of bytes; it is no answer, and never refused. */
 uint32_t cdrom_edc(const uint8_t *bytes, size_t length);

@@ -1,5 +1,10 @@
 //! Addresses: minute, second and frame, on the disc in BCD.
 
+/// Of a minute, of a second, and of all 100 minutes.
+const SECONDS: u32 = 60;
+const FRAMES: u32 = 75;
+const ADDRESSES: u32 = 100 * SECONDS * FRAMES;
+
 /// Parts are wider than a byte, so that a caller may ask about any number.
 #[derive(Clone, Copy, Debug, PartialEq, Eq)]
 pub struct Address {
@@ -22,17 +27,20 @@ impl Address {
         [bcd(self.minute), bcd(self.second), bcd(self.frame)]
     }
 
-    /// The address one frame on; the last of all is followed by the first.
+    /// The address one frame on; the last of all is followed by the first. It is counted, so that no part has a carry
+    /// of its own. Only asked of valid addresses.
     pub fn next(self) -> Address {
-        if self.frame < 74 {
-            Address { frame: self.frame + 1, ..self }
-        } else if self.second < 59 {
-            Address::new(self.minute, self.second + 1, 0)
-        } else if self.minute < 99 {
-            Address::new(self.minute + 1, 0, 0)
-        } else {
-            Address::new(0, 0, 0)
-        }
+        Address::counted((self.frames() + 1) % ADDRESSES)
+    }
+
+    /// The frames from 00:00:00 to this one.
+    fn frames(self) -> u32 {
+        (self.minute as u32 * SECONDS + self.second as u32) * FRAMES + self.frame as u32
+    }
+
+    fn counted(frames: u32) -> Address {
+        let (seconds, frame) = (frames / FRAMES, frames % FRAMES);
+        Address::new((seconds / SECONDS) as u16, (seconds % SECONDS) as u16, frame as u16)
     }
 }
 
@@ -57,6 +65,34 @@ mod tests {
     fn digits_become_nibbles() {
         assert_eq!(Address::new(99, 59, 74).bcd(), [0x99, 0x59, 0x74]);
         assert_eq!(Address::new(0, 2, 10).bcd(), [0x00, 0x02, 0x10]);
+    }
+
+    /// Decimal digits, read as hexadecimal ones.
+    #[test]
+    fn each_number_has_its_digits() {
+        for number in 0..100 {
+            let digits = u8::from_str_radix(&format!("{number:02}"), 16).unwrap();
+            assert_eq!(Address::new(number, number, number).bcd(), [digits; 3]);
+        }
+    }
+
+    #[test]
+    fn next_carries_each_part() {
+        let steps = [
+            ((0, 0, 0), (0, 0, 1)),
+            ((0, 0, 9), (0, 0, 10)),
+            ((12, 59, 69), (12, 59, 70)),
+            ((99, 59, 73), (99, 59, 74)),
+            ((0, 2, 74), (0, 3, 0)),
+            ((99, 58, 74), (99, 59, 0)),
+            ((0, 59, 74), (1, 0, 0)),
+            ((98, 59, 74), (99, 0, 0)),
+            ((99, 59, 74), (0, 0, 0)),
+        ];
+        for ((minute, second, frame), (next_minute, next_second, next_frame)) in steps {
+            let next = Address::new(minute, second, frame).next();
+            assert_eq!(next, Address::new(next_minute, next_second, next_frame));
+        }
     }
 
     #[test]

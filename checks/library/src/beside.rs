@@ -1,16 +1,16 @@
 //! The calls that need no chip. They are made at each sector that a chip is given, whether or not the chip takes it:
-//! on that sector, on buffers of its length, and on sectors that were made for them.
+//! on that sector, on buffers of its length, on sectors that were made for them, and on addresses.
 
 use crate::buffers::Buffers;
 use crate::call::{Answer, Call};
 use crate::checker::Checker;
 use crate::difference::{same, same_rows, Part};
-use crate::expectation::{judged, parity_checked, sealed, sealed_xa};
+use crate::expectation::{followed, judged, parity_checked, sealed, sealed_xa};
 use crate::happenings::{judging_name, parity_name};
 use crate::library::Library;
 use crate::record::{self, Record};
 use crate::sealing::Sealing;
-use crate::{judging, parity};
+use crate::{addresses, judging, parity};
 use ecma130::{open, Address};
 
 const DONE: Answer = Answer::Reply { number: 0, result: 0 };
@@ -29,7 +29,10 @@ impl<L: Library> Checker<'_, L> {
         let sealing = Sealing::random(sector.length, address, &mut self.random);
         self.compare_sealing_xa(&sealing)?;
         self.compare_made_for_parity()?;
-        self.compare_made_for_judging()
+        self.compare_made_for_judging()?;
+        self.compare_next_address(address)?;
+        let chosen = addresses::any(&mut self.address_random);
+        self.compare_next_address(chosen)
     }
 
     fn compare_made_for_parity(&mut self) -> Result<(), Part> {
@@ -68,6 +71,14 @@ impl<L: Library> Checker<'_, L> {
         same("the parity check", parity_checked(opened), found)?;
         same_rows("the checked sector, byte", opened, &lent)?;
         Ok(found)
+    }
+
+    fn compare_next_address(&mut self, address: Address) -> Result<(), Part> {
+        let Address { minute, second, frame } = address;
+        let (wanted, found) = (followed(address), self.library.next_address(address));
+        same(&format!("the next address of {minute:02}:{second:02}:{frame:02}"), wanted, found)?;
+        self.happenings.note_next_address(address, &wanted);
+        Ok(())
     }
 
     /// Over stale bytes, so that all but the user bytes must be written.

@@ -16,6 +16,8 @@ use model::Random;
 pub struct Checker<'a, L: Library> {
     pub(crate) library: &'a mut L,
     pub(crate) random: Random,
+    /// Chooses what the next address is asked of, and nothing else: no other call of a run goes by it.
+    pub(crate) address_random: Random,
     pub happenings: Happenings,
     /// Calls made so far.
     pub calls: u64,
@@ -23,7 +25,8 @@ pub struct Checker<'a, L: Library> {
 
 impl<'a, L: Library> Checker<'a, L> {
     pub fn new(library: &'a mut L, seed: u64) -> Checker<'a, L> {
-        Checker { library, random: Random::new(seed), happenings: Happenings::default(), calls: 0 }
+        let (random, address_random) = (Random::new(seed), Random::new(!seed));
+        Checker { library, random, address_random, happenings: Happenings::default(), calls: 0 }
     }
 
     /// Makes the call on both and lets the state go on by it.

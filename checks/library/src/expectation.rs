@@ -1,4 +1,4 @@
-//! What a call must answer and leave, by the model, and what the calls on sectors must, by the independent sector code.
+//! What a call must answer and leave, by the model, and what the calls without a chip must, by the independent code.
 
 use crate::call::{Answer, Call};
 use crate::library::Lent;
@@ -49,6 +49,15 @@ pub fn sealed_xa(sector: &mut [u8], address: Address, kind: u16, subheader: [u8;
 /// The result is 1 where every word holds that the sector has.
 pub fn parity_checked(sector: &[u8]) -> Answer {
     reply(parity_holds(sector).map(u32::from))
+}
+
+/// The result is the next address: the frame in its low byte, the second in the next, the minute in the third.
+pub fn followed(address: Address) -> Answer {
+    if !address.is_valid() {
+        return reply(Err(Refusal::BadAddress));
+    }
+    let Address { minute, second, frame } = address.next();
+    reply(Ok((minute as u32) << 16 | (second as u32) << 8 | frame as u32))
 }
 
 fn reply(answer: Result<u32, Refusal>) -> Answer {

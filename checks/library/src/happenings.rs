@@ -56,7 +56,7 @@ pub const WRONG_RINGS: [&str; 5] =
 const LENT_A_RING: [&str; 4] = ["sector", "look", "word", "words"];
 
 /// All else that is counted.
-const NAMES: [&str; 148] = [
+const NAMES: [&str; 159] = [
     "ring of 3 blocks opened",
     "ring of 4 blocks opened",
     "ring of 25 blocks opened",
@@ -103,6 +103,17 @@ const NAMES: [&str; 148] = [
     "sealing of form 2 refused, form bit low (3)",
     "mode 1 sealed with the form bit high",
     "mode 1 sealed with the form bit low",
+    "next address within a second",
+    "next address within the last second of a minute",
+    "next address from frame 9 to frame 10",
+    "next address from frame 69 to frame 70",
+    "next address in the next second",
+    "next address in the next minute",
+    "next address after the last",
+    "next address refused, minute (3)",
+    "next address refused, second (3)",
+    "next address refused, frame (3)",
+    "next address refused, several parts (3)",
     "sector of 0 bytes",
     "sector of 1 byte",
     "sector of 2,351 bytes",

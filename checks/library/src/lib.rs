@@ -2,6 +2,7 @@
 //! archive and `model` are given the same random calls, and all that a call answers and leaves
 //! is compared after it.
 
+mod addresses;
 mod any_calls;
 mod beside;
 mod buffers;

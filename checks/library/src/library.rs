@@ -33,6 +33,9 @@ pub trait Library {
 
     /// Checks the parity of an opened sector, of any length.
     fn parity(&mut self, sector: &mut [u8]) -> Answer;
+
+    /// The address after an address, of any parts.
+    fn next_address(&mut self, address: Address) -> Answer;
 }
 
 /// The archive that is linked.
@@ -82,6 +85,12 @@ impl Library for Linked {
     fn parity(&mut self, sector: &mut [u8]) -> Answer {
         // SAFETY: as in `judge`.
         reply(unsafe { raw::cdrom_parity(sector.as_ptr(), sector.len()) })
+    }
+
+    fn next_address(&mut self, address: Address) -> Answer {
+        let Address { minute, second, frame } = address;
+        // SAFETY: the call is lent nothing.
+        reply(unsafe { raw::cdrom_next_address(minute, second, frame) })
     }
 }
 

@@ -1,5 +1,6 @@
 //! What happened in a call, told from the call, its answer and the chip on both sides of it.
 
+mod addresses;
 mod sectors;
 mod starts;
 

@@ -1,7 +1,7 @@
 //! The model in the library's place: the comparison can be tried by it, whatever the archive does.
 
 use crate::call::{Answer, Call};
-use crate::expectation::{judged, parity_checked, sealed, sealed_xa};
+use crate::expectation::{followed, judged, parity_checked, sealed, sealed_xa};
 use crate::library::{Lent, Library};
 use crate::record::{self, Record};
 use crate::state::{refused_opening, State};
@@ -43,5 +43,9 @@ impl Library for StandIn {
 
     fn parity(&mut self, sector: &mut [u8]) -> Answer {
         parity_checked(sector)
+    }
+
+    fn next_address(&mut self, address: Address) -> Answer {
+        followed(address)
     }
 }

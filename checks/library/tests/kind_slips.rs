@@ -321,6 +321,6 @@ fn another_mode_byte_is_checked_by_its_form() {
 
 #[test]
 fn nothing_where_nothing_is_wrong() {
-    let mut library = Slipping { judge: Some(right), check: Some(holds), seal: None };
+    let mut library = Slipping { judge: Some(right), check: Some(holds), ..Slipping::default() };
     run(&mut library, SEED, CALLS).expect("the model against itself");
 }

@@ -149,6 +149,7 @@ struct Partly {
     why: fn(u32) -> u32,
     judge: fn(u32) -> u32,
     parity: fn(u32) -> u32,
+    next_address: fn(u32) -> u32,
     /// Judging, checking and sealing change these bytes of the sector that they are lent.
     touched_by_judge: Option<usize>,
     touched_by_parity: Option<usize>,
@@ -166,6 +167,7 @@ const RIGHT: Partly = Partly {
     why: as_it_is,
     judge: as_it_is,
     parity: as_it_is,
+    next_address: as_it_is,
     touched_by_judge: None,
     touched_by_parity: None,
     touched_by_seal: None,
@@ -223,6 +225,10 @@ impl Library for Partly {
         touch(sector, self.touched_by_parity);
         with_result(answer, self.parity)
     }
+
+    fn next_address(&mut self, address: Address) -> Answer {
+        with_result(StandIn.next_address(address), self.next_address)
+    }
 }
 
 #[track_caller]
@@ -265,6 +271,16 @@ fn another_answer_of_the_parity_check() {
     let wrong: [fn(u32) -> u32; 4] = [|_| 0, |_| 1, |holds| holds ^ 1, |holds| holds << 8];
     for change in wrong {
         is_told_as("the parity check", Partly { parity: change, ..RIGHT });
+    }
+}
+
+/// One bit of each part, and one above them.
+#[test]
+fn another_next_address() {
+    let wrong: [fn(u32) -> u32; 5] =
+        [|next| next ^ 1, |next| next ^ 1 << 6, |next| next ^ 1 << 8, |next| next ^ 1 << 16, |next| next ^ 1 << 23];
+    for change in wrong {
+        is_told_as("the next address of ", Partly { next_address: change, ..RIGHT });
     }
 }
 

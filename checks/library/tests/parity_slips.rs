@@ -55,6 +55,10 @@ impl Library for Slipping {
             _ => StandIn.parity(sector),
         }
     }
+
+    fn next_address(&mut self, address: Address) -> Answer {
+        StandIn.next_address(address)
+    }
 }
 
 fn told_of(reseal: Option<Reseal>, check: Option<Check>) -> String {

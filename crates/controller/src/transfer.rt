@@ -6,8 +6,24 @@ use crate::step::refuse;
 use numbers::least;
 use numbers::wide;
 ghost use mathlib.Core.Path.{_≡_};
-ghost use Prim.Native.Nat.{_+_, _*_, _<_, _≤_};
-ghost use Rattle.controller.specs.Transfer.{engaged, start-switches, limit, blocks-asked, start-blocks, byte-count, begun, start, settled, concluded, completed, signed};
+ghost use Prim.Native.Nat.{_+_, _*_, _<_, _≤_, min};
+ghost use Rattle.controller.specs.Transfer.{engaged, start-switches, limit, most-blocks, blocks-asked, start-blocks, byte-count, begun, start, settled, concluded, completed, signed};
+
+// The blocks that are asked for, but no more than have 65,534 bytes, which are 32,767 words. Those above are taken off one by one, so that nothing is divided:
+// in a sound record, which asks for 32 blocks of 1,176 words at most, there are five at most.
+fn within_words(asked: u16, words: u16) -> u16
+    requires { ⌜ 0 < words ⌝ }
+    ensures { λ r. ⌜ r ≡ min asked (most-blocks words) ⌝ }
+{
+    let one = words as u32;
+    let mut blocks = asked;
+    let mut total = asked as u32 * one;
+    while 32767 < total {
+        total -= one;
+        blocks -= 1;
+    }
+    blocks
+}
 
 impl Controller {
     pub fn engaged(self) -> bool
@@ -40,12 +56,12 @@ impl Controller {
         least(self.limit(), least(self.counts.tcc, self.counts.ttc))
     }
 
-    // The blocks of a start that has a window: bytes come by two, so that the bound of 65,534 is one of 32,767 words.
+    // The blocks of a start that has a window.
     fn start_blocks(self) -> u16
         requires { ⌜ 0 < self .window .words ⌝ }
         ensures { λ r. ⌜ (r ≡ start-blocks self) × (r ≤ 256) ⌝ }
     {
-        least(self.blocks_asked(), 32767 / self.window.words)
+        within_words(self.blocks_asked(), self.window.words)
     }
 
     // The count fits in its two registers.

@@ -4,10 +4,13 @@ use mathlib.Core.List.{List}
 use Prim.Native.Nat.{ℕ}
 use lib.ListN.{getD}
 use Rattle.laws.specs.Bytes.{pair}
+use Rattle.laws.specs.Choice.{if_then_else_}
 use Rattle.sector.specs.declared.Address.{Address}
+use Rattle.reply.specs.Reply.{refusal, answer}
 use Rattle.reply.specs.declared.Reply.{Reply}
 use Rattle.sector.specs.declared.Judged.{Judged}
 use Rattle.sector.specs.declared.Subheader.{Subheader}
+use Rattle.sector.specs.Address.{valid, next}
 use Rattle.sector.specs.Calls.{seal-reply, open-reply, judge-answer, parity-reply}
 use Rattle.sector.specs.Judge.{why}
 use Rattle.script.specs.Bench.{Left, started}
@@ -42,6 +45,14 @@ judge-word s a = judged-word (judge-answer s a)
 
 abbrev pub parity-word : List ℕ → ℕ
 parity-word s = reply-word (parity-reply s)
+
+-- an address as one number, a byte for each part: the frame in the lowest
+abbrev pub address-number : Address → ℕ
+address-number a = pair (a .frame) (pair (a .second) (a .minute))
+
+-- the address that follows (paper 01, "The ring"; paper 02, ask 5); 3 for one that is out of range
+abbrev pub next-address-word : Address → ℕ
+next-address-word a = reply-word (if valid a then answer (address-number (next a)) else refusal 3)
 
 -- what lines leave, with the length of their answers as the result
 abbrev pub with-size : Left Fed → Left ℕ

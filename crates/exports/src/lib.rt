@@ -7,10 +7,11 @@ mod plain;
 
 use answer::at;
 use answer::packed;
+use answer::packed_address;
 ghost use mathlib.Core.Path.{_≡_};
 ghost use Rattle.edc.specs.Edc.{edc};
 ghost use Rattle.sector.specs.Calls.{seal-sector, open-sector, no-subheader};
-ghost use Rattle.exports.specs.Words.{at, subheader-in, seal-word, open-word, judge-word, parity-word, bench-run};
+ghost use Rattle.exports.specs.Words.{at, subheader-in, seal-word, open-word, judge-word, parity-word, next-address-word, bench-run};
 use script::Bench;
 use sector::Subheader;
 
@@ -84,6 +85,19 @@ pub extern "C" fn cdrom_parity(sector: &[u8]) -> u32
 {
     let checked = sector::check_parity(sector);
     packed(checked.number, checked.result)
+}
+
+// The address that follows an address.
+// Ruled out: one that goes on from an address that there is not, and one that answers the second in the minute's place.
+#[no_mangle]
+pub extern "C" fn cdrom_next_address(minute: u16, second: u16, frame: u16) -> u32
+    ensures { λ r. ⌜ r ≡ next-address-word (at minute second frame) ⌝ }
+{
+    let address = at(minute, second, frame);
+    if !address.valid() {
+        return packed(3, 0);
+    }
+    packed_address(address.next())
 }
 
 // The error detection code of the bytes, whatever their number.

@@ -7,8 +7,8 @@ use Rattle.ring.specs.Place.{at, opened, place-step}
 use Rattle.ring.specs.declared.Place.{Place}
 
 module _ (p : Place) (e : Event) where
-  pub step-store : e ≡ Store → at (p .n) (p .t) ((p .b + 1) % p .n) (p .b) ≡ place-step p e
-  step-store q = simp q
+  pub step-store : (r : ℕ) → e ≡ Store → r ≡ (p .b + 1) % p .n → at (p .n) (p .t) r (p .b) ≡ place-step p e
+  step-store r q h = simp (q, h)
 
   pub step-advance : (k r : ℕ) → e ≡ Advance k → r ≡ (p .t + k) % p .n → at (p .n) r (p .b) (p .last) ≡ place-step p e
   step-advance k r q h = simp (q, h)

@@ -17,12 +17,18 @@ pub struct Place {
     pub last: u16,
 }
 
-// k blocks after block t
+// k blocks after block t, turn by turn, so that nothing is divided. In a sound chip no event goes further than TCC blocks, which is less than a turn: then
+// there is one subtraction at most.
 fn after(t: u16, k: u16, n: u16) -> u16
     requires { ⌜ 0 < n ⌝ }
     ensures { λ r. ⌜ r ≡ (t + k) % n ⌝ }
 {
-    ((t as u32 + k as u32) % (n as u32)) as u16
+    let turn = n as u32;
+    let mut place = t as u32 + k as u32;
+    while turn <= place {
+        place -= turn;
+    }
+    place as u16
 }
 
 impl Place {
@@ -53,7 +59,7 @@ impl Place {
         requires { ⌜ PlaceSound self ⌝ }
         ensures { λ r. ⌜ r ≡ full self ⌝ }
     {
-        (self.b + 1) % self.n == self.t
+        after(self.b, 1, self.n) == self.t
     }
 
     pub fn step(mut self, event: Event) -> Place
@@ -65,12 +71,15 @@ impl Place {
         let b = self.b;
         match event {
             Event::Stay => self,
-            Event::Store => Place {
-                n: n,
-                t: t,
-                b: (b + 1) % n,
-                last: b,
-            },
+            Event::Store => {
+                let next = after(b, 1, n);
+                Place {
+                    n: n,
+                    t: t,
+                    b: next,
+                    last: b,
+                }
+            }
             Event::Advance(k) => {
                 let next = after(t, k, n);
                 self.t = next;

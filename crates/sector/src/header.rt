@@ -1,7 +1,7 @@
 // The address of a sector: its range, the one after it, and its bytes in the header.
 ghost use mathlib.Core.Path.{_≡_};
 ghost use mathlib.Core.Bool.{true};
-ghost use Prim.Native.Nat.{_<_};
+ghost use Prim.Native.Nat.{_+_, _*_, _<_, _≤_};
 ghost use Rattle.sector.specs.Address.{valid, next, bcd, address-bytes};
 use super::Address;
 
@@ -54,12 +54,38 @@ impl Address {
     }
 }
 
-// Two decimal digits in a byte.
+// A number below 100 on its way to two decimal digits: so many tens, and what is left.
+struct Digits {
+    tens: u16,
+    rest: u16,
+}
+
+impl Digits {
+    // Carries w tens from the rest where it has them, by a comparison and a subtraction.
+    // Ruled out: one that carries from 9 on, and one that leaves a ten in the rest.
+    fn carry(self, w: u16) -> Digits
+        requires { ⌜ self .tens * 10 + self .rest < 100 ⌝ }
+        requires { ⌜ (self .rest < 20 * w) × (w ≤ 8) ⌝ }
+        ensures { λ r. ⌜ (r .tens * 10 + r .rest ≡ self .tens * 10 + self .rest) × (r .rest < 10 * w) ⌝ }
+    {
+        if self.rest < 10 * w {
+            return self;
+        }
+        Digits {
+            tens: self.tens + w,
+            rest: self.rest - 10 * w,
+        }
+    }
+}
+
+// Two decimal digits in a byte. The tens are found by their binary digits, so that nothing is divided.
 fn to_bcd(n: u16) -> u8
     requires { ⌜ n < 100 ⌝ }
     ensures { λ r. ⌜ r ≡ bcd n ⌝ }
 {
-    ((n / 10) * 16 + n % 10) as u8
+    let all = Digits { tens: 0, rest: n };
+    let digits = all.carry(8).carry(4).carry(2).carry(1);
+    (digits.tens * 16 + digits.rest) as u8
 }
 
 // Bytes 12 to 14 of a sector.

@@ -17,6 +17,7 @@ extern "C" {
     pub fn cdrom_open(sector: *mut u8, length: usize) -> u32;
     pub fn cdrom_judge(sector: *const u8, length: usize, minute: u16, second: u16, frame: u16) -> u32;
     pub fn cdrom_parity(sector: *const u8, length: usize) -> u32;
+    pub fn cdrom_next_address(minute: u16, second: u16, frame: u16) -> u32;
     pub fn cdrom_edc(bytes: *const u8, length: usize) -> u32;
 
     pub fn cdrom_chip_open(chip: *mut [u16; CHIP_WORDS], blocks: u16) -> u32;

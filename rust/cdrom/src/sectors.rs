@@ -33,6 +33,15 @@ pub struct Address {
     pub frame: u16,
 }
 
+impl Address {
+    /// As a result has it: the frame in the lowest byte, then the second, then the minute.
+    fn of_result(result: u32) -> Address {
+        let [frame, second, minute, none] = result.to_le_bytes();
+        assert_eq!(none, 0, "a result has 24 bits");
+        Address { minute: minute.into(), second: second.into(), frame: frame.into() }
+    }
+}
+
 /// What failed of a sector: four tests, each made whatever the others say. Its text is for a log.
 ///
 /// The error detection code goes by the kind that is read ([`Kind::of`]). That of [`Kind::Mode1`] covers bytes 0 to
@@ -272,6 +281,29 @@ pub fn parity(sector: &[u8]) -> Result<bool, Refusal> {
 fn is_yes(result: u32) -> bool {
     assert!(result <= 1, "{result:#x} is neither yes nor no");
     result == 1
+}
+
+/// The address after an address: the next frame; the next second after frame 74, the next minute after second 59, and
+/// 00:00:00 after 99:59:74.
+///
+/// ```
+/// # fn main() -> Result<(), cdrom::Refusal> {
+/// use cdrom::{next_address, Address, Refusal};
+///
+/// let last_of_a_second = Address { minute: 0, second: 2, frame: 74 };
+/// assert_eq!(next_address(last_of_a_second)?, Address { minute: 0, second: 3, frame: 0 });
+/// let none = Address { minute: 0, second: 2, frame: 75 };
+/// assert_eq!(next_address(none), Err(Refusal::OutOfRange));
+/// # Ok(())
+/// # }
+/// ```
+///
+/// Refusals: [`OutOfRange`](Refusal::OutOfRange) for the address.
+pub fn next_address(address: Address) -> Result<Address, Refusal> {
+    let Address { minute, second, frame } = address;
+    // SAFETY: nothing is lent to the call.
+    let answer = unsafe { raw::cdrom_next_address(minute, second, frame) };
+    result_of(answer).map(Address::of_result)
 }
 
 /// The error detection code of any number of bytes.

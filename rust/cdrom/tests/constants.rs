@@ -3,7 +3,7 @@
 //! line unseen.
 
 use cdrom::registers::{HCEI, STAERR};
-use cdrom::{Facts, Kind, Refusal, FORM2_BYTES, SECTOR_BYTES, SUBMODE_FORM2, WHY_EDC};
+use cdrom::{next_address, raw, Address, Facts, Kind, Refusal, FORM2_BYTES, SECTOR_BYTES, SUBMODE_FORM2, WHY_EDC};
 use cdrom::{USER_BYTES, USER_OFFSET, XA_USER_OFFSET};
 use std::collections::BTreeMap;
 
@@ -27,15 +27,19 @@ const REFUSALS: [&str; 9] =
 const ALIAS: &str = "BAD_ADDRESS";
 /// The kinds by their names in the header, from 1 on; in the crate they are those of `Kind`.
 const KINDS: [&str; 3] = ["MODE1", "FORM1", "FORM2"];
-/// The macros with a parameter. The first two are `Kind::user`, the third is `Kind::of`; the next two take an answer
-/// apart, as the crate's results do; the last is `Facts::verdict` and `Verdict::tarsta` in one.
-const MACROS: [&str; 6] = [
+/// The macros with a parameter. The first two are `Kind::user`, the third is `Kind::of`; the next five take an answer
+/// apart, as the crate's results do, three of them into an address; the last is `Facts::verdict` and `Verdict::tarsta`
+/// in one.
+const MACROS: [&str; 9] = [
     "USER_OFFSET_OF(kind) ((kind) == CDROM_MODE1 ? CDROM_USER_OFFSET : CDROM_XA_USER_OFFSET)",
     "USER_BYTES_OF(kind) ((kind) == CDROM_FORM2 ? CDROM_FORM2_BYTES : CDROM_USER_BYTES)",
     "KIND_OF(sector) \
      ((sector)[15] != 2 ? CDROM_MODE1 : (sector)[18] & CDROM_SUBMODE_FORM2 ? CDROM_FORM2 : CDROM_FORM1)",
     "NUMBER(answer) ((answer) & 0xFF)",
     "RESULT(answer) ((answer) >> 8)",
+    "MINUTE(answer) ((answer) >> 24)",
+    "SECOND(answer) ((answer) >> 16 & 0xFF)",
+    "FRAME(answer) ((answer) >> 8 & 0xFF)",
     "TARSTA_OF(why) ((((why) & 15) + CDROM_STAERR - CDROM_WHY_EDC) & (CDROM_STAERR | CDROM_HCEI))",
 ];
 
@@ -131,6 +135,17 @@ fn macros() {
         let facts = Facts::from_why(why).expect("0 to 15 are facts");
         assert_eq!(tarsta_of, facts.verdict().tarsta(), "{why}");
     }
+}
+
+#[test]
+fn macros_of_addresses() {
+    let address = Address { minute: 12, second: 34, frame: 56 };
+    // SAFETY: nothing is lent to the call.
+    let answer = unsafe { raw::cdrom_next_address(address.minute, address.second, address.frame) };
+    let parts = [answer >> 24, answer >> 16 & 0xFF, answer >> 8 & 0xFF];
+    let next = next_address(address).expect("an address");
+    assert_eq!(parts, [next.minute, next.second, next.frame].map(u32::from));
+    assert_eq!(parts, [12, 34, 57]);
 }
 
 #[test]

@@ -73,4 +73,8 @@ impl Library for Faulty<'_> {
     fn parity(&mut self, sector: &mut [u8]) -> Answer {
         StandIn.parity(sector)
     }
+
+    fn next_address(&mut self, address: Address) -> Answer {
+        StandIn.next_address(address)
+    }
 }

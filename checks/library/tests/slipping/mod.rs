@@ -12,12 +12,15 @@ pub type Judge = fn(&[u8], Address) -> Facts;
 pub type Check = fn(&[u8]) -> bool;
 /// Of a buffer of any length.
 pub type Seal = fn(&mut [u8], Address, u16, &mut [u8; 4]) -> Answer;
+/// Of any address.
+pub type Next = fn(Address) -> Answer;
 
 #[derive(Default)]
 pub struct Slipping {
     pub judge: Option<Judge>,
     pub check: Option<Check>,
     pub seal: Option<Seal>,
+    pub next: Option<Next>,
 }
 
 impl Library for Slipping {
@@ -57,6 +60,13 @@ impl Library for Slipping {
         match self.check {
             Some(check) if sector.len() == SECTOR_BYTES => Answer::Reply { number: 0, result: check(sector) as u32 },
             _ => StandIn.parity(sector),
+        }
+    }
+
+    fn next_address(&mut self, address: Address) -> Answer {
+        match self.next {
+            Some(next) => next(address),
+            None => StandIn.next_address(address),
         }
     }
 }

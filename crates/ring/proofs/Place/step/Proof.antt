@@ -10,23 +10,20 @@ enum-told c = search needs
 enum-told-2 : tie.Need-enum-told-2
 enum-told-2 c = search needs
 
-add-t12 : tie.Need-add-t12
-add-t12 c = search needs
-
-rem-t13 : tie.Need-rem-t13
-rem-t13 c = search needs
+after-requires : tie.Need-after-requires
+after-requires c κs = search needs
 
 enum-known-event : tie.Need-enum-known-event
 enum-known-event c = search needs
 
-after-requires : tie.Need-after-requires
-after-requires c κs = search needs
+after-requires-2 : tie.Need-after-requires-2
+after-requires-2 c κs = search needs
 
 enum-known-event-2 : tie.Need-enum-known-event-2
 enum-known-event-2 c = search needs
 
-after-requires-2 : tie.Need-after-requires-2
-after-requires-2 c κs = search needs
+after-requires-3 : tie.Need-after-requires-3
+after-requires-3 c κs = search needs
 
 enum-known-event-3 : tie.Need-enum-known-event-3
 enum-known-event-3 c = search needs
@@ -58,12 +55,11 @@ step-spec =
     (tie.spec
     enum-told
     enum-told-2
-    add-t12
-    rem-t13
-    enum-known-event
     after-requires
-    enum-known-event-2
+    enum-known-event
     after-requires-2
+    enum-known-event-2
+    after-requires-3
     enum-known-event-3
     enum-told-3
     returns

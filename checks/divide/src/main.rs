@@ -55,7 +55,7 @@ fn told_sources(sources: Sources) -> Result<String, String> {
     let kit: Vec<String> = sources.kit.into_iter().collect();
     Ok(format!(
         "sources: {} functions reached from the step and the comparison of addresses, none divides; \
-        {} from {} exported calls, by powers of two alone; of the kit: {}",
+        {} from {} exported calls of a drive, by powers of two alone; of the kit: {}",
         sources.from_roots.len(),
         sources.from_calls.len(),
         sources.calls,

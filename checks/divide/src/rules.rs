@@ -2,8 +2,8 @@
 //!
 //! 1. From the step to the next address and from the comparison of the expected address with a sector's nothing is
 //!    divided, not even by a power of two, and nothing is called whose source is not here.
-//! 2. From every exported call but the bench, which prints decimal numbers, what is divided is divided by a number that
-//!    is written out and is a power of two.
+//! 2. From every exported call that a drive makes what is divided is divided by a number that is written out and is a
+//!    power of two. A drive does not run the bench, and it neither seals sectors nor checks their parity.
 
 use crate::body::{Call, Division};
 use crate::items::Item;
@@ -17,7 +17,7 @@ use std::fmt;
 const ROOTS: [(&str, &str); 3] =
     [("sector", "Address::next"), ("sector", "address_holds"), ("exports", "cdrom_next_address")];
 /// Exported calls from which rule 2 does not start.
-const BENCH: [&str; 1] = ["cdrom_bench"];
+const NOT_OF_A_DRIVE: [&str; 4] = ["cdrom_bench", "cdrom_parity", "cdrom_seal", "cdrom_seal_xa"];
 /// Parts of names of functions that divide. A division by a constant in the kit is seen neither here nor in the archive
 /// otherwise.
 const DIVIDING_WORDS: [&str; 6] = ["div", "divide", "mod", "quotient", "rem", "remainder"];
@@ -94,8 +94,9 @@ fn roots(program: &Program) -> (Vec<usize>, Vec<Finding>) {
 
 /// The roots of rule 2, of which there must be some too.
 fn exported(program: &Program) -> (Vec<usize>, Vec<Finding>) {
-    let calls = positions(program, |item| item.is_exported && !BENCH.contains(&item.name.as_str()));
-    let findings = if calls.is_empty() { vec![missing("exports", "every exported call")] } else { Vec::new() };
+    let calls = positions(program, |item| item.is_exported && !NOT_OF_A_DRIVE.contains(&item.name.as_str()));
+    let findings =
+        if calls.is_empty() { vec![missing("exports", "every exported call of a drive")] } else { Vec::new() };
     (calls, findings)
 }
 

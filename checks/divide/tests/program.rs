@@ -57,7 +57,7 @@ fn both_sides_without_a_finding() {
     assert_eq!(told(&output), "");
     let printed = printed(&output);
     let sources = "sources: 4 functions reached from the step and the comparison of addresses, none divides; \
-        4 from 2 exported calls, by powers of two alone; of the kit: bytes::copy";
+        4 from 2 exported calls of a drive, by powers of two alone; of the kit: bytes::copy";
     assert_eq!(printed.lines().next(), Some(sources));
     assert!(printed.contains(" of 2 functions, none divides\n"), "{printed}");
 }

@@ -5,10 +5,10 @@ use std::path::Path;
 
 const HEADER: &str = "crates/sector/src/header.rt";
 const CHECKS: &str = "crates/sector/src/checks.rt";
-const SLICES: &str = "crates/slices/src/lib.rt";
+const NUMBERS: &str = "crates/numbers/src/lib.rt";
 const EXPORTS: &str = "crates/exports/src/lib.rt";
 const RING: &str = "crates/ring/src/lib.rt";
-const ROWS: &str = "crates/parity/src/rows.rt";
+const TRANSFER: &str = "crates/controller/src/transfer.rt";
 const EDC: &str = "crates/edc/src/lib.rt";
 
 fn tree() -> Tree {
@@ -74,18 +74,18 @@ fn nothing_is_found_in_the_tree() {
 #[test]
 fn the_roots_reach_what_they_call() {
     let sources = checked(&tree());
-    for title in ["Address::next", "Address::valid", "Digits::carry", "address_holds", "bytes_of", "to_bcd"] {
-        assert!(sources.from_roots.contains(&format!("sector::{title}")), "{title} of {:?}", sources.from_roots);
+    let expected = "sector::Address::next sector::Address::valid sector::address_holds sector::is_bcd_of \
+        exports::cdrom_next_address exports::at exports::packed exports::packed_address";
+    for title in expected.split_whitespace() {
+        assert!(sources.from_roots.contains(&title.to_string()), "{title} of {:?}", sources.from_roots);
     }
-    assert!(sources.from_roots.contains(&"slices::equal".to_string()), "{:?}", sources.from_roots);
-    assert!(sources.from_roots.contains(&"exports::cdrom_next_address".to_string()));
 }
 
 #[test]
 fn the_exported_calls_reach_most_functions() {
     let sources = checked(&tree());
     let expected = "scramble::scramble scramble::scramble_into scramble::xor scramble::table edc::edc edc::put \
-        ring::after parity::take_row controller::Controller::write_acctl encoding::decode \
+        ring::after controller::within_words controller::Controller::write_acctl encoding::decode \
         encoding::encode chip::Chip::sound burst::host_words sector::Address::next sector::address_holds sector::form \
         slices::word_at";
     for title in expected.split_whitespace() {
@@ -97,8 +97,8 @@ fn the_exported_calls_reach_most_functions() {
 
 #[test]
 fn digits_by_division() {
-    let tree = with_line(HEADER, "to_bcd", "return ((n / 10) * 16 + n % 10) as u8;");
-    let from_root = "address_holds -> bytes_of -> to_bcd".to_string();
+    let tree = with_line(HEADER, "is_bcd_of", "let wrong = byte as u16 == (n / 10) * 16 + n % 10;");
+    let from_root = "address_holds -> is_bcd_of".to_string();
     let from_call = format!("cdrom_judge -> judge -> judgement_of -> {from_root}");
     let expected = [
         (nothing_may("/ 10"), from_root.clone()),
@@ -106,10 +106,19 @@ fn digits_by_division() {
         (no_power("/ 10"), from_call.clone()),
         (no_power("% 10"), from_call),
     ];
-    assert_eq!(found(&tree, "to_bcd"), expected);
+    assert_eq!(found(&tree, "is_bcd_of"), expected);
     let file_and_line = &checked(&tree).findings[0].place;
-    let line = tree.files[HEADER].lines().position(|line| line.contains("n / 10")).unwrap() + 1;
+    let line = tree.files[HEADER].lines().position(|line| line.contains("let wrong")).unwrap() + 1;
     assert_eq!(*file_and_line, format!("{HEADER}:{line}"));
+}
+
+/// Sealing's digits are reached as soon as the comparison takes them.
+#[test]
+fn digits_of_sealing() {
+    let tree = with_line(CHECKS, "address_holds", "let expected = header::bytes_of(address);");
+    let chain = "address_holds -> bytes_of -> to_bcd".to_string();
+    let expected = [(nothing_may("/ 10"), chain.clone()), (nothing_may("% 10"), chain)];
+    assert_eq!(found(&tree, "to_bcd")[..2], expected);
 }
 
 #[test]
@@ -124,18 +133,23 @@ fn a_remainder_in_a_root() {
 
 #[test]
 fn a_remainder_in_a_method_that_is_reached() {
-    let tree = with_line(HEADER, "carry", "let rest = self.rest % w;");
-    let chain = "address_holds -> bytes_of -> to_bcd -> Digits::carry".to_string();
-    assert_eq!(found(&tree, "Digits::carry")[0], (nothing_may("% an expression"), chain));
+    let mut tree = with_line(HEADER, "is_bcd_of", "let digits = Digits { n };\nlet ones = digits.ones(10);");
+    let text = "\nstruct Digits { n: u16 }\nimpl Digits { fn ones(self, w: u16) -> u16 { self.n % w } }\n";
+    tree.files.get_mut(HEADER).unwrap().push_str(text);
+    let chain = "address_holds -> is_bcd_of -> Digits::ones".to_string();
+    assert_eq!(found(&tree, "Digits::ones")[0], (nothing_may("% an expression"), chain));
 }
 
 /// By a power of two, which rule 1 forbids and rule 2 does not; and in another crate.
 #[test]
 fn a_division_by_two() {
-    let tree = with_line(SLICES, "equal", "let half = a.len() / 2;");
-    assert_eq!(found(&tree, "equal"), [(nothing_may("/ 2"), "address_holds -> equal".to_string())]);
-    let tree = with_line(HEADER, "bytes_of", "let low = address.minute % 0x10;");
-    assert_eq!(found(&tree, "bytes_of"), [(nothing_may("% 0x10"), "address_holds -> bytes_of".to_string())]);
+    let mut tree = with_line(HEADER, "is_bcd_of", "let w = numbers::wide(byte);");
+    let text = tree.files.get_mut(NUMBERS).unwrap();
+    *text = text.replacen("    byte as u16\n", "    (byte / 2) as u16\n", 1);
+    let chain = "address_holds -> is_bcd_of -> wide".to_string();
+    assert_eq!(found(&tree, "wide"), [(nothing_may("/ 2"), chain)]);
+    let tree = with_line(HEADER, "is_bcd_of", "let low = byte % 0x10;");
+    assert_eq!(found(&tree, "is_bcd_of"), [(nothing_may("% 0x10"), "address_holds -> is_bcd_of".to_string())]);
     let tree = with_line(HEADER, "valid", "let low = self.minute % 16;");
     let chain = "cdrom_next_address -> Address::valid".to_string();
     assert_eq!(found(&tree, "Address::valid"), [(nothing_may("% 16"), chain)]);
@@ -143,26 +157,26 @@ fn a_division_by_two() {
 
 #[test]
 fn a_constant_that_is_divided() {
-    let mut tree = with_line(HEADER, "to_bcd", "let tens = TENS;");
+    let mut tree = with_line(HEADER, "is_bcd_of", "let tens = TENS;");
     tree.files.get_mut(HEADER).unwrap().push_str("\nconst TENS: u16 = 100 / 10;\n");
-    let chain = "address_holds -> bytes_of -> to_bcd -> TENS".to_string();
+    let chain = "address_holds -> is_bcd_of -> TENS".to_string();
     assert_eq!(found(&tree, "TENS")[0], (nothing_may("/ 10"), chain));
 }
 
 #[test]
 fn code_that_is_not_here() {
-    let kit = with_line(HEADER, "bytes_of", "bytes::copy(&a, &mut b);");
-    let (fault, chain) = &found(&kit, "bytes_of")[0];
+    let kit = with_line(HEADER, "is_bcd_of", "bytes::copy(&a, &mut b);");
+    let (fault, chain) = &found(&kit, "is_bcd_of")[0];
     assert_eq!(fault, "calls `bytes::copy`, whose source is not here");
-    assert_eq!(chain, "address_holds -> bytes_of");
-    let method = with_line(HEADER, "bytes_of", "let low = address.minute.rem_euclid(10);");
-    let faults: Vec<String> = found(&method, "bytes_of").into_iter().map(|(fault, _)| fault).collect();
+    assert_eq!(chain, "address_holds -> is_bcd_of");
+    let method = with_line(HEADER, "is_bcd_of", "let low = n.rem_euclid(10);");
+    let faults: Vec<String> = found(&method, "is_bcd_of").into_iter().map(|(fault, _)| fault).collect();
     assert_eq!(
         faults,
         ["calls `.rem_euclid`, whose source is not here", "calls `.rem_euclid`, which divides by its name"]
     );
-    let value = with_line(HEADER, "bytes_of", "let f = to_bcd; f(address.minute);");
-    assert_eq!(found(&value, "bytes_of")[0].0, "calls `f`, which is neither a function of the crates nor of the kit");
+    let value = with_line(HEADER, "is_bcd_of", "let f = to_bcd; f(n);");
+    assert_eq!(found(&value, "is_bcd_of")[0].0, "calls `f`, which is neither a function of the crates nor of the kit");
 }
 
 #[test]
@@ -175,12 +189,12 @@ fn a_remainder_of_the_ring() {
 }
 
 #[test]
-fn a_division_in_parity_and_one_in_the_kit() {
-    let tree = with_line(ROWS, "take_row", "let turn = row / 26;");
-    let found_in_parity = found(&tree, "take_row");
-    let [(fault, chain)] = &found_in_parity[..] else { panic!("{found_in_parity:?}") };
-    assert_eq!(*fault, no_power("/ 26"));
-    assert_eq!(chain, "cdrom_seal -> seal -> put -> write -> write_p -> p_data -> p_sums -> take_row");
+fn a_division_of_a_start_and_one_in_the_kit() {
+    let tree = with_line(TRANSFER, "within_words", "let most = 32767 / words;");
+    let found_in_start = found(&tree, "within_words");
+    let [(fault, chain)] = &found_in_start[..] else { panic!("{found_in_start:?}") };
+    assert_eq!(*fault, no_power("/ an expression"));
+    assert!(chain.ends_with("Controller::start -> Controller::start_blocks -> within_words"), "{chain}");
     let tree = with_line(EDC, "edc", "let n = std::num::wrapping_div_u32(7, 3);");
     let expected = "calls `std::num::wrapping_div_u32`, which divides by its name".to_string();
     assert_eq!(found(&tree, "edc"), [(expected, "cdrom_edc -> edc".to_string())]);
@@ -189,14 +203,14 @@ fn a_division_in_parity_and_one_in_the_kit() {
 #[test]
 fn what_is_no_code_is_not_found() {
     let unchanged = all_found(&tree());
-    let comment = with_line(HEADER, "to_bcd", "// n / 10 and n % 10\n let m = n; // n / 10");
+    let comment = with_line(HEADER, "is_bcd_of", "// n / 10 and n % 10\n let m = n; // n / 10");
     assert_eq!(all_found(&comment), unchanged);
-    let string = with_line(HEADER, "to_bcd", "let text = b\"n / 10 \\\" % 10\"; let sign = b'/';");
+    let string = with_line(HEADER, "is_bcd_of", "let text = b\"n / 10 \\\" % 10\"; let sign = b'/';");
     assert_eq!(all_found(&string), unchanged);
     let clause = replaced(
         HEADER,
-        "fn to_bcd(n: u16) -> u8",
-        "fn to_bcd(n: u16) -> u8\n ensures { λ r. ⌜ { n / 10 } % 3 ≡ f(r) ⌝ }",
+        "fn is_bcd_of(byte: u8, n: u16) -> bool",
+        "fn is_bcd_of(byte: u8, n: u16) -> bool\n ensures { λ r. ⌜ { n / 10 } % 3 ≡ f(r) ⌝ }",
     );
     assert_eq!(all_found(&clause), unchanged);
     let ghost = with_text(HEADER, "use super::Address;", "ghost use Prim.Native.Nat.{_/_, _%_, _*_};");
@@ -222,7 +236,7 @@ fn a_tree_without_exported_calls() {
     let mut tree = tree();
     let files = tree.files.iter_mut().filter(|(file, _)| file.starts_with("crates/exports/"));
     files.for_each(|(_, text)| *text = text.replace("#[no_mangle]", ""));
-    assert!(found(&tree, "every exported call")[0].0.starts_with("is missing"));
+    assert!(found(&tree, "every exported call of a drive")[0].0.starts_with("is missing"));
 }
 
 #[test]

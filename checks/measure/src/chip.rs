@@ -2,7 +2,7 @@
 //! the same ring. Each time starts from the same record, which is copied first:
 //! the library's is 56 bytes, the model's some hundreds.
 
-use crate::timing::{row, time_all, Row, Timing};
+use crate::timing::{repeat_row, row, tasks_of, time_all, Row, Timing};
 use cdrom::registers::{ACCTL, ACMEN, ADCEN, ADTT, ASCTRL, ASTRG, BICCTL, BLIMEN, CTRL0, DECEN, TCINCEN};
 use cdrom::{Record, SECTOR_BYTES, USER_BYTES, USER_OFFSET};
 use model::BLOCK_BYTES;
@@ -15,6 +15,7 @@ const WORDS: usize = USER_BYTES / 2;
 
 const SECTOR: &str = "a good sector";
 const ALONE: &str = "memcpy, open and judge alone";
+const START: &str = "a start by the firmware";
 const WORD: &str = "a host word, of 1,024";
 const BURST: &str = "a burst of 1,024 words";
 
@@ -26,10 +27,11 @@ const SWITCHES: [(u16, u16); 4] = [(BICCTL, BLIMEN), (ACCTL, ACMEN | TCINCEN), (
 /// Any command sets BSY.
 const COMMAND: u16 = 0x28;
 
-/// Both chips before a sector and with a transfer of one block started, and what they are lent.
+/// Both chips before a sector, after the host's command, and with a transfer of one block started, and what they are lent.
 struct Chips {
     sealed: [u8; SECTOR_BYTES],
     decoding: (Record, model::Chip),
+    commanded: (Record, model::Chip),
     started: (Record, model::Chip),
     ring: RefCell<Vec<u8>>,
     words: RefCell<[u16; WORDS]>,
@@ -49,11 +51,24 @@ pub fn print() {
     }
 }
 
+/// Makes so many calls of the library at a task, and nothing else; whether there is such a task. Of host words a call
+/// is all of a block.
+pub fn repeat(task: &str, calls: u32) -> bool {
+    repeat_row(&mut rows(&Chips::new()), task, LIBRARY, calls)
+}
+
+/// The tasks that the library has a row for.
+pub fn tasks() -> Vec<&'static str> {
+    tasks_of(&rows(&Chips::new()), LIBRARY)
+}
+
 fn rows(chips: &Chips) -> Vec<Row<'_>> {
     vec![
         row(SECTOR, LIBRARY, || chips.library_sector()),
         row(SECTOR, MODEL, || chips.model_sector()),
         row(ALONE, LIBRARY, || chips.open_and_judge()),
+        row(START, LIBRARY, || chips.library_start()),
+        row(START, MODEL, || chips.model_start()),
         row(WORD, LIBRARY, || chips.library_words()),
         row(WORD, MODEL, || chips.model_words()),
         row(BURST, LIBRARY, || chips.library_burst()),
@@ -70,8 +85,9 @@ impl Chips {
         let model = model_chips(&mut ring, &sealed);
         Chips {
             sealed,
-            decoding: (library.0, model.0),
-            started: (library.1, model.1),
+            decoding: (library[0], model[0]),
+            commanded: (library[1], model[1]),
+            started: (library[2], model[2]),
             ring: RefCell::new(ring),
             words: RefCell::new([0; WORDS]),
         }
@@ -95,6 +111,19 @@ impl Chips {
         cdrom::open(&mut sector).unwrap();
         let address = cdrom::Address { minute: 0, second: 2, frame: 0 };
         assert!(cdrom::judge(black_box(&sector), address).unwrap().is_good());
+    }
+
+    fn library_start(&self) {
+        let mut ring = self.ring.borrow_mut();
+        let mut chip = cdrom::Chip::from_record(black_box(self.commanded.0), &mut ring);
+        chip.write(ASTRG, ADTT).unwrap();
+        black_box(chip.record());
+    }
+
+    fn model_start(&self) {
+        let mut chip = black_box(self.commanded.1);
+        assert_eq!(chip.write(ASTRG, ADTT), Ok(0));
+        black_box(chip);
     }
 
     fn library_words(&self) {
@@ -133,24 +162,26 @@ impl Chips {
     }
 }
 
-fn library_chips(ring: &mut [u8], sealed: &[u8]) -> (Record, Record) {
+fn library_chips(ring: &mut [u8], sealed: &[u8]) -> [Record; 3] {
     let mut chip = cdrom::Chip::open(BLOCKS, ring).unwrap();
     chip.set_window(USER_OFFSET as u16, WORDS as u16).unwrap();
     SWITCHES.iter().for_each(|&(register, value)| chip.write(register, value).unwrap());
     let decoding = chip.record();
     chip.sector(sealed).unwrap();
     chip.command(COMMAND).unwrap();
+    let commanded = chip.record();
     chip.write(ASTRG, ADTT).unwrap();
-    (decoding, chip.record())
+    [decoding, commanded, chip.record()]
 }
 
-fn model_chips(ring: &mut [u8], sealed: &[u8]) -> (model::Chip, model::Chip) {
+fn model_chips(ring: &mut [u8], sealed: &[u8]) -> [model::Chip; 3] {
     let mut chip = model::Chip::open(BLOCKS).unwrap();
     chip.set_window(USER_OFFSET as u16, WORDS as u16).unwrap();
     SWITCHES.iter().for_each(|&(register, value)| assert_eq!(chip.write(register, value), Ok(0)));
     let decoding = chip;
     chip.sector(ring, sealed).unwrap();
     chip.host_command(COMMAND).unwrap();
+    let commanded = chip;
     chip.write(ASTRG, ADTT).unwrap();
-    (decoding, chip)
+    [decoding, commanded, chip]
 }

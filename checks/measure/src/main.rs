@@ -21,10 +21,15 @@ fn main() -> ExitCode {
     }
     let calls = words.get(1).and_then(|number| number.parse().ok());
     match calls {
-        Some(calls) if words.len() == 2 && sectors::repeat(&words[0], calls) => ExitCode::SUCCESS,
+        Some(calls) if words.len() == 2 && repeat(&words[0], calls) => ExitCode::SUCCESS,
         _ => {
-            eprintln!("usage: measure [TASK CALLS]; TASK is one of: {}", sectors::tasks().join("; "));
+            let tasks = [sectors::tasks(), chip::tasks()].concat();
+            eprintln!("usage: measure [TASK CALLS]; TASK is one of: {}", tasks.join("; "));
             ExitCode::from(2)
         }
     }
+}
+
+fn repeat(task: &str, calls: u32) -> bool {
+    sectors::repeat(task, calls) || chip::repeat(task, calls)
 }

@@ -1,6 +1,6 @@
 //! The library's calls beside the independent code, on the same sector.
 
-use crate::timing::{row, time_all, Row, Timing};
+use crate::timing::{repeat_row, row, tasks_of, time_all, Row, Timing};
 use cdrom::{Kind, Subheader};
 use ecma130::{edc_by_table, edc_sliced, EDC_START, SECTOR_BYTES};
 use std::cell::RefCell;
@@ -20,6 +20,7 @@ const JUDGE_FORM1: &str = "judge form 1";
 const JUDGE_FORM2: &str = "judge form 2";
 const PARITY: &str = "parity check of 138 words";
 const PARITY_FORM1: &str = "parity check of form 1";
+const NEXT: &str = "the next address";
 
 const LIBRARY: &str = "library";
 const INDEPENDENT: &str = "independent";
@@ -79,18 +80,12 @@ pub fn print() {
 
 /// Makes so many calls of the library at a task, and nothing else; whether there is such a task.
 pub fn repeat(task: &str, calls: u32) -> bool {
-    let bytes = Bytes::new();
-    let mut rows = rows(&bytes);
-    let Some(row) = rows.iter_mut().find(|row| row.task == task && row.code == LIBRARY) else { return false };
-    (0..calls).for_each(|_| (row.call)());
-    true
+    repeat_row(&mut rows(&Bytes::new()), task, LIBRARY, calls)
 }
 
 /// The tasks that the library has a row for.
 pub fn tasks() -> Vec<&'static str> {
-    let bytes = Bytes::new();
-    let rows = rows(&bytes);
-    rows.iter().filter(|row| row.code == LIBRARY).map(|row| row.task).collect()
+    tasks_of(&rows(&Bytes::new()), LIBRARY)
 }
 
 fn best(rows: &[Row], timings: &[Timing], task: &str, code: &str) -> f64 {
@@ -158,6 +153,8 @@ fn rows(bytes: &Bytes) -> Vec<Row<'_>> {
         row(JUDGE_FORM1, LIBRARY, || judge(&bytes.form1)),
         row(JUDGE_FORM2, LIBRARY, || judge(&bytes.form2)),
         row(PARITY_FORM1, LIBRARY, || assert!(cdrom::parity(black_box(&bytes.form1)).unwrap())),
+        row(NEXT, LIBRARY, || assert!(black_box(cdrom::next_address(black_box(LENT))).is_ok())),
+        row(NEXT, INDEPENDENT, || assert!(black_box(black_box(ADDRESS).next()).is_valid())),
     ]
 }
 

@@ -49,6 +49,7 @@ fn sector_calls() -> Vec<(&'static str, usize)> {
         ("cdrom_judge", of_sector_call(raw::cdrom_judge as Function)),
         ("cdrom_parity", of_sector_call(raw::cdrom_parity as Function)),
         ("cdrom_edc", of_sector_call(raw::cdrom_edc as Function)),
+        ("cdrom_next_address", of_next_address()),
     ]
 }
 
@@ -118,6 +119,15 @@ fn of_chip_call(function: Function, record: Record, rest: [u64; 5]) -> usize {
         let [a, b, c, d, e] = rest;
         // SAFETY: each call takes a record first, and the others' memory outlives it; numbers that it does not take it does not read.
         unsafe { touched(paint, function, [record.as_mut_ptr() as u64, a, b, c, d, e], &[]) }
+    });
+    touched[0].max(touched[1])
+}
+
+/// From the last address, which goes through all of its carries.
+fn of_next_address() -> usize {
+    let touched = PAINTS.map(|paint| {
+        // SAFETY: the call takes three numbers.
+        unsafe { touched(paint, raw::cdrom_next_address as Function, [99, 59, 74, 0, 0, 0], &[]) }
     });
     touched[0].max(touched[1])
 }
@@ -219,7 +229,7 @@ mod tests {
                 "cdrom_bench" => 5 * 1024,
                 "cdrom_chip_sector" => 4 * 1024,
                 "cdrom_seal" | "cdrom_seal_xa" | "cdrom_open" => 3 * 1024,
-                "cdrom_judge" | "cdrom_parity" | "cdrom_edc" => 1024,
+                "cdrom_judge" | "cdrom_parity" | "cdrom_edc" | "cdrom_next_address" => 1024,
                 _ => 2 * 1024,
             };
             assert!(bytes < limit, "{name} takes {bytes} bytes of stack");

@@ -33,6 +33,18 @@ pub fn row<'a>(task: &'static str, code: &'static str, call: impl FnMut() + 'a) 
     Row { task, code, call: Box::new(call) }
 }
 
+/// Makes so many calls of a row, and nothing else; whether there is such a row.
+pub fn repeat_row(rows: &mut [Row], task: &str, code: &str, calls: u32) -> bool {
+    let Some(row) = rows.iter_mut().find(|row| row.task == task && row.code == code) else { return false };
+    (0..calls).for_each(|_| (row.call)());
+    true
+}
+
+/// The tasks that a code has a row for.
+pub fn tasks_of(rows: &[Row], code: &str) -> Vec<&'static str> {
+    rows.iter().filter(|row| row.code == code).map(|row| row.task).collect()
+}
+
 /// `calls` are the calls of a row in a round.
 pub fn time_all(rows: &mut [Row], calls: u32) -> Vec<Timing> {
     let mut rounds = vec![Vec::with_capacity(ROUNDS); rows.len()];

@@ -1,7 +1,7 @@
 // The sums of many words at once. P words stand side by side in rows of 86 bytes, so that a row has one symbol of each; the words' sums stand in two rows, and
 // taking in a row of symbols is one step for all of them. Q words run down the same rows aslant.
 ghost use mathlib.Core.Path.{_≡_};
-ghost use Prim.Native.Nat.{ℕ, _+_, _*_, _-_, _%_, _<_, _≤_};
+ghost use Prim.Native.Nat.{ℕ, _+_, _*_, _-_, _<_, _≤_};
 ghost use lib.ListN.{length, getD};
 ghost use Rattle.laws.specs.Listed.{listed};
 ghost use Rattle.parity.specs.Layout.{p, q, value-at};
@@ -99,20 +99,6 @@ fn p_sums(first: &[u8; 86], s: &[u8], a: &mut [u8], b: &mut [u8])
     }
 }
 
-// The row of a step of Q: they come round every 26 steps. By comparison and subtraction, so that nothing is divided.
-fn row_of(r: usize) -> usize
-    requires { ⌜ r < 78 ⌝ }
-    ensures { λ row. ⌜ row ≡ r % 26 ⌝ }
-{
-    if r < 26 {
-        return r;
-    }
-    if r < 52 {
-        return r - 26;
-    }
-    r - 52
-}
-
 // At step r word n of Q meets row r % 26, in column r - n. So with the last word first in a and b, a row's bytes stand as their words do. Up to step 24 words
 // begin, one a step.
 fn q_begin(first: &[u8; 86], s: &[u8], a: &mut [u8], b: &mut [u8])
@@ -135,7 +121,7 @@ fn q_all(first: &[u8; 86], s: &[u8], a: &mut [u8], b: &mut [u8])
 {
     let mut r: usize = 25;
     while r < 43 {
-        take_row(first, s, a, b, row_of(r), 2 * (r - 25), 0, 52);
+        take_row(first, s, a, b, r % 26, 2 * (r - 25), 0, 52);
         r += 1;
     }
 }
@@ -148,7 +134,7 @@ fn q_end(first: &[u8; 86], s: &[u8], a: &mut [u8], b: &mut [u8])
 {
     let mut r: usize = 43;
     while r < 68 {
-        take_row(first, s, a, b, row_of(r), 2 * (r - 25), 0, 136 - 2 * r);
+        take_row(first, s, a, b, r % 26, 2 * (r - 25), 0, 136 - 2 * r);
         r += 1;
     }
 }

@@ -1,18 +1,21 @@
 -- The laws of addresses: what being valid says, the one that follows, and the digits. Assumes nothing.
 use mathlib.Core.Path.{_≡_, refl, sym, ap, _∙_}
-use mathlib.Core.Bool.{true, false, _&&_}
+use mathlib.Core.Bool.{Bool, true, false, _&&_, and-true}
 use mathlib.Core.List.{List, [], _∷_}
-use Prim.Native.Nat.{ℕ, _+_, _<_, _≤_}
-use lib.ListN.{getD}
+use Prim.Native.Nat.{ℕ, _+_, _-_, _*_, _/_, _<_, _≤_}
+use lib.ListN.{length, getD}
 use native.Mathlib.Omega.{arith}
-use lib.Dec.{leb, ltb}
-use borrow.Author.Tests.{leb-true, le-leb, lt-leb, lt-ltb, le-ltb, ltb-true}
+use lib.Dec.{leb, ltb, eqb}
+use borrow.Author.Tests.{leb-true, le-leb, lt-leb, lt-ltb, le-ltb, ltb-true, ne-eqb}
 use Rattle.laws.specs.Choice.{if_then_else_}
 use Rattle.laws.proofs.Choice.{left-true, right-true, if-case}
 use Rattle.laws.proofs.Bytes.{bytes-nil, bytes-cons}
 use Rattle.laws.specs.Bytes.{Bytes}
+use Rattle.laws.proofs.Ends.{drop-next}
+use Rattle.laws.proofs.Wrap.{same-test}
 use Rattle.sector.specs.declared.Address.{Address}
 use Rattle.sector.specs.Address.{valid, next, bcd, from-bcd, address-bytes}
+use Rattle.sector.specs.Judge.{address-holds}
 
 -- a valid address, part by part
 pub record InRange (a : Address) : Type 0 where
@@ -66,6 +69,34 @@ module _ (a : Address) where
 -- the digits give the number back, and an address is known from its bytes
 pub bcd-back : (n : ℕ) → n ≤ 99 → from-bcd (bcd n) ≡ n
 bcd-back n h = omega arith
+
+-- a byte is a number's digits just where its low half is a digit, and the two halves make the number
+pub no-digit : (b n : ℕ) → 9 < b - 16 * (b / 16) → false ≡ eqb b (bcd n)
+no-digit b n h = sym (ne-eqb b (bcd n) (λ e. omega (arith, h, e)))
+
+pub digits-make : (b n : ℕ) → b - 16 * (b / 16) ≤ 9 → eqb (10 * (b / 16) + (b - 16 * (b / 16))) n ≡ eqb b (bcd n)
+digits-make b n h = same-test (10 * (b / 16) + (b - 16 * (b / 16))) n b (bcd n) (λ e. omega arith) (λ e. omega arith)
+
+-- the three bytes of an address, one by one: the first that is another one's, or the last
+module _ (a : Address) (s : List ℕ) (long : length s ≡ 2352) where
+  tests : address-holds a s ≡ (eqb (getD s 12 0) (bcd (a .minute)) && (eqb (getD s 13 0) (bcd (a .second)) && eqb (getD s 14 0) (bcd (a .frame))))
+  unfolding address-holds
+  tests =
+      let l12 = drop-next s 12 (omega arith) in
+      let l13 = drop-next s 13 (omega arith) in
+      let l14 = drop-next s 14 (omega arith) in
+      simp (l12, l13, l14, and-true)
+
+  pub minute-fails : {x : Bool} → x ≡ eqb (getD s 12 0) (bcd (a .minute)) → x ≡ false → false ≡ address-holds a s
+  minute-fails ex fx = sym (tests ∙ simp (sym ex ∙ fx))
+
+  pub second-fails : {x y : Bool} → x ≡ eqb (getD s 12 0) (bcd (a .minute)) → x ≡ true → y ≡ eqb (getD s 13 0) (bcd (a .second)) → y ≡ false
+      → false ≡ address-holds a s
+  second-fails ex tx ey fy = sym (tests ∙ simp (sym ex ∙ tx, sym ey ∙ fy))
+
+  pub frame-tells : {x y z : Bool} → x ≡ eqb (getD s 12 0) (bcd (a .minute)) → x ≡ true → y ≡ eqb (getD s 13 0) (bcd (a .second)) → y ≡ true
+      → z ≡ eqb (getD s 14 0) (bcd (a .frame)) → z ≡ address-holds a s
+  frame-tells ex tx ey ty ez = ez ∙ sym (tests ∙ simp (sym ex ∙ tx, sym ey ∙ ty))
 
 bcd-byte : (n : ℕ) → n ≤ 99 → bcd n < 256
 bcd-byte n h = omega arith

@@ -67,20 +67,25 @@ fn address_holds(sector: &[u8], address: Address) -> bool
     requires { ⌜ valid address ≡ true ⌝ }
     ensures { λ r. ⌜ r ≡ address-holds address (now (sector .entry)) ⌝ }
 {
-    let expected = header::bytes_of(address);
-    equal(&sector[12..15], &expected)
+    if !header::is_bcd_of(sector[12], address.minute) {
+        return false;
+    }
+    if !header::is_bcd_of(sector[13], address.second) {
+        return false;
+    }
+    header::is_bcd_of(sector[14], address.frame)
 }
 
-// Each test is made, whatever the others say.
+// Each test is made, whatever the others say. The address comes first, so that it need not be kept while the code is worked out.
 pub fn judgement_of(sector: &[u8], address: Address) -> Judgement
     requires { ⌜ length (now sector) ≡ 2352 ⌝ }
     requires { ⌜ valid address ≡ true ⌝ }
     ensures { λ r. ⌜ r ≡ judgement address (now (sector .entry)) ⌝ }
 {
+    let header = address_holds(sector, address);
     let sync = sync_holds(sector);
     let mode = mode_holds(sector);
     let edc = edc_holds(sector);
-    let header = address_holds(sector, address);
     Judgement {
         sync: !sync,
         mode: !mode,

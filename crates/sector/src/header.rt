@@ -1,7 +1,8 @@
 // The address of a sector: its range, the one after it, and its bytes in the header.
 ghost use mathlib.Core.Path.{_≡_};
 ghost use mathlib.Core.Bool.{true};
-ghost use Prim.Native.Nat.{_+_, _*_, _<_, _≤_};
+ghost use Prim.Native.Nat.{_<_};
+ghost use lib.Dec.{eqb};
 ghost use Rattle.sector.specs.Address.{valid, next, bcd, address-bytes};
 use super::Address;
 
@@ -54,38 +55,26 @@ impl Address {
     }
 }
 
-// A number below 100 on its way to two decimal digits: so many tens, and what is left.
-struct Digits {
-    tens: u16,
-    rest: u16,
-}
-
-impl Digits {
-    // Carries w tens from the rest where it has them, by a comparison and a subtraction.
-    // Ruled out: one that carries from 9 on, and one that leaves a ten in the rest.
-    fn carry(self, w: u16) -> Digits
-        requires { ⌜ self .tens * 10 + self .rest < 100 ⌝ }
-        requires { ⌜ (self .rest < 20 * w) × (w ≤ 8) ⌝ }
-        ensures { λ r. ⌜ (r .tens * 10 + r .rest ≡ self .tens * 10 + self .rest) × (r .rest < 10 * w) ⌝ }
-    {
-        if self.rest < 10 * w {
-            return self;
-        }
-        Digits {
-            tens: self.tens + w,
-            rest: self.rest - 10 * w,
-        }
-    }
-}
-
-// Two decimal digits in a byte. The tens are found by their binary digits, so that nothing is divided.
+// Two decimal digits in a byte.
 fn to_bcd(n: u16) -> u8
     requires { ⌜ n < 100 ⌝ }
     ensures { λ r. ⌜ r ≡ bcd n ⌝ }
 {
-    let all = Digits { tens: 0, rest: n };
-    let digits = all.carry(8).carry(4).carry(2).carry(1);
-    (digits.tens * 16 + digits.rest) as u8
+    ((n / 10) * 16 + n % 10) as u8
+}
+
+// Whether a byte is a number's two digits, without a division: the digits are put together, and not the number taken apart. A digit above 9 is none, so that
+// 1Ah is no 20.
+// Ruled out: one that takes 1Ah for 20, and one that compares the byte with the number itself.
+pub fn is_bcd_of(byte: u8, n: u16) -> bool
+    ensures { λ r. ⌜ r ≡ eqb byte (bcd n) ⌝ }
+{
+    let tens = byte >> 4;
+    let ones = byte - 16 * tens;
+    if 9 < ones {
+        return false;
+    }
+    10 * (tens as u32) + (ones as u32) == n as u32
 }
 
 // Bytes 12 to 14 of a sector.

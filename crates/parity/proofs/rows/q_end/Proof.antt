@@ -1,6 +1,6 @@
 -- `parity::rows::q_end` meets its contract. Assumes nothing.
 use mathlib.Core.Path.{sym, _∙_}
-use Prim.Native.Nat.{_*_, _-_, _≤_}
+use Prim.Native.Nat.{_*_, _-_, _%_, _≤_}
 use native.Mathlib.Omega.{arith}
 use Rattle.parity.proofs.RowLaws.{q-step, q-whole}
 use Rattle.parity.specs.Rows.{view, Sums, q-lane, met}
@@ -16,9 +16,6 @@ abbrev μ-loop : tie.MeasureT-loop
 loop-holds : tie.Need-loop-holds Inv-loop μ-loop
 loop-holds c = (omega arith, omega arith, c .before .before .before .pre .1)
 
-row-of-requires : tie.Need-row-of-requires Inv-loop μ-loop
-row-of-requires c κs = omega arith
-
 sub-take-row : tie.Need-sub-take-row Inv-loop μ-loop
 sub-take-row c = omega arith
 
@@ -33,10 +30,10 @@ sub-take-row-2 c = omega arith
 
 take-row-requires : tie.Need-take-row-requires Inv-loop μ-loop
 take-row-requires c κs =
-    let l = c .before .before .before .before .loop in
-    let o = c .before .before .before .before .before .before .before .before in
+    let l = c .before .before .before .loop in
+    let o = c .before .before .before .before .before .before .before in
     let r = l .r in
-    (o .pre .0, ((omega (arith, c .row-of .ensures), omega arith), (omega (arith, l .inv .2 .size-a), omega (arith, l .inv .2 .size-b))))
+    (o .pre .0, ((omega arith, omega arith), (omega (arith, l .inv .2 .size-a), omega (arith, l .inv .2 .size-b))))
 
 add-r : tie.Need-add-r Inv-loop μ-loop
 add-r c = omega arith
@@ -46,11 +43,10 @@ loop-less c = omega arith
 
 loop-again : tie.Need-loop-again Inv-loop μ-loop
 loop-again c =
-    let l = c .before .before .before .before .before .before .before .before .before .loop in
-    let o = c .before .before .before .before .before .before .before .before .before .before .before .before .before in
+    let l = c .before .before .before .before .before .before .before .before .loop in
+    let o = c .before .before .before .before .before .before .before .before .before .before .before .before in
     let r = l .r in
-    let at = c .before .before .before .before .before .row-of in
-    (omega arith, omega arith, q-step (view (o .args .first .now) (o .args .s .now)) r (at .result) (2 * (r - 25)) 0 (136 - 2 * r) (omega (arith, at .ensures)) (omega (arith, at .ensures)) (omega (arith, at .ensures)) (omega (arith, at .ensures)) (omega (arith, at .ensures)) (l .a) (l .b) _ _ (l .inv .2) (c .before .before .before .before .take-row .ensures))
+    (omega arith, omega arith, q-step (view (o .args .first .now) (o .args .s .now)) r (r % 26) (2 * (r - 25)) 0 (136 - 2 * r) (omega arith) (omega arith) (omega arith) (omega arith) (omega arith) (l .a) (l .b) _ _ (l .inv .2) (c .before .before .before .before .take-row .ensures))
 
 same-length : tie.Need-same-length Inv-loop μ-loop
 same-length c = c .before .loop .inv .2 .size-a ∙ sym (c .before .before .before .before .before .pre .1 .size-a)
@@ -71,7 +67,6 @@ q-end-spec =
     Inv-loop
     μ-loop
     loop-holds
-    row-of-requires
     sub-take-row
     mul-take-row
     mul-take-row-2

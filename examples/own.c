@@ -1,4 +1,4 @@
-/* An engineer's own code for a part of the chip; own.h says which. Nothing in it is divided, so that a processor without a divide
+/* An engineer's own code for a part of the chip; own.h says which. It divides nothing, so that a processor without a divide
  * instruction needs no library for it. Built with -DFAULT=1 to 17 it has a slip, so that one can see examples/against.c find it: 1 to 5 are
  * those that paper 01 tells of other boards, 6 and 7 are in telling what failed of a sector, 8 to 10 in the byte bound of a start, 11 to 15
  * in the kinds of sectors, 16 and 17 in addresses. */
@@ -9,7 +9,7 @@
 #endif
 
 enum { DONE, WRONG_LENGTH, NO_REGISTER, OUT_OF_RANGE, BARRED, SWITCHES, TOO_FEW, DECODING_OFF, HELD, NO_ROOM };
-enum { BLOCK_BYTES = 2560, SECTOR_BYTES = 2352 };
+enum { BLOCK_BYTES = 2560, SECTOR_BYTES = 2352, MOST_WORDS = 1176 };
 enum { MODE_1 = 1, MODE_2 = 2, FORM_BIT = 0x20 };
 enum { DECEN = 0x80, ADTT = 0x04, ADCEN = 0x40, STWCEN = 0x08, BSY = 0x80, DRQ = 0x08, STAERR = 0x40, HCEI = 0x01 };
 enum { BLIMEN = 0x20, BLIMS = 0x10, ACMEN = 0x40, TCINCEN = 0x20, ATLIM = 0x1F };
@@ -54,7 +54,7 @@ static void descramble(uint8_t *block, const uint8_t *sector)
     }
 }
 
-/* Below 100. A ten is sixteen here, so that each adds six; the tens are found by their binary digits, and nothing is divided. */
+/* Of a number below 100. In BCD a ten counts sixteen: 80, 40, 20 and 10 are taken off where they fit, and six is added for each ten. */
 static uint8_t bcd(uint8_t number)
 {
     uint8_t rest = number, digits = number;
@@ -346,8 +346,9 @@ static uint16_t blocks_asked_for(const struct own *own)
 /* So many blocks, less those whose bytes pass the bound, with and without STWCEN: five at most, which are taken off one by one. */
 static uint16_t blocks_within_bytes(const struct own *own, uint16_t blocks)
 {
-    uint32_t bytes = 2u * own->words * blocks;
-    for (; bytes > MOST_BYTES && FAULT != 8; bytes -= 2u * own->words)
+    const uint32_t of_a_block = UINT32_C(2) * own->words;
+    uint32_t bytes = of_a_block * blocks;
+    for (; bytes > MOST_BYTES && FAULT != 8; bytes -= of_a_block)
         blocks--;
     return blocks;
 }
@@ -423,7 +424,7 @@ uint32_t own_read(struct own *own, uint16_t reg)
 
 uint32_t own_set_window(struct own *own, uint16_t offset, uint16_t words)
 {
-    if (words < 1 || words > SECTOR_BYTES / 2 || offset > SECTOR_BYTES - 2 * words)
+    if (words < 1 || words > MOST_WORDS || offset > SECTOR_BYTES - 2 * words)
         return OUT_OF_RANGE;
     if (own->left > 0)
         return BARRED;

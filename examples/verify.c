@@ -5,9 +5,9 @@
  *
  * or anywhere, after `make install`: gcc -std=c11 -O2 verify.c $(pkg-config --cflags --libs cdrom) -o verify
  *
- * The first sector says from which address the image is; each other must have the address after. Where a first sector's bytes are no
- * address, the next one says it. A line tells of each sector that is not as it should be what failed, and the last line how many sectors of each kind there are. Of a form 2 sector without a code no user byte
- * can be checked: these are counted apart.
+ * The first sector says from which address the image is; each other must have the address after. Where the bytes of a sector that says it
+ * are no address, the next one does. A line tells of each sector that is not as it should be what failed, and the last line how many
+ * sectors of each kind there are. Of a form 2 sector without a code no user byte can be checked: these are counted apart.
  *
  * Exit status: 0 all sectors are good, and their parity holds; 1 one is not, or the image is empty or no whole number of sectors; 2 wrong
  * arguments, or the file cannot be read. */
@@ -28,9 +28,10 @@ struct counts {
     unsigned long all, wrong, of_kind[4], unchecked;
 };
 
+/* A digit above 9 is none, and gives a number that is in no address. */
 static uint16_t from_bcd(uint8_t byte)
 {
-    return (uint16_t)(10 * (byte >> 4) + (byte & 15));
+    return (byte & 15) > 9 ? UINT16_MAX : (uint16_t)(10 * (byte >> 4) + (byte & 15));
 }
 
 static struct address address_in(const uint8_t *sector)
@@ -38,7 +39,7 @@ static struct address address_in(const uint8_t *sector)
     return (struct address){from_bcd(sector[12]), from_bcd(sector[13]), from_bcd(sector[14])};
 }
 
-/* Before the first sector there is no address, and none follows it. */
+/* Stands for no address, as before the first sector: cdrom_next_address refuses it. */
 static const struct address none = {.minute = UINT16_MAX};
 
 /* The address that is due after another; after what is no address, the sector's own. */

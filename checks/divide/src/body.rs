@@ -36,7 +36,7 @@ pub enum Form {
     Function,
     /// `.name(`.
     Method,
-    /// `name!(`, `)(` or `](`: what is called cannot be told from its name.
+    /// `name!(`, `name::<`, `)(`, `](` or `}(`: what is called cannot be told from its name.
     Other,
 }
 
@@ -80,7 +80,7 @@ impl Call {
     }
 }
 
-/// Whether a division's sign stands in code where no function is.
+/// Whether the token is a sign that divides.
 pub fn is_division(token: &Token) -> bool {
     token.kind == Kind::Sign && DIVISIONS.contains(&token.text)
 }
@@ -113,7 +113,7 @@ fn value(number: &str) -> Option<u128> {
 
 fn call(tokens: &[Token], place: usize) -> Option<Call> {
     let token = tokens[place];
-    if text(tokens, place + 1) == "(" && [")", "]"].contains(&token.text) {
+    if text(tokens, place + 1) == "(" && [")", "]", "}"].contains(&token.text) {
         return Some(other(&token, "a value"));
     }
     if token.kind != Kind::Name || KEYWORDS.contains(&token.text) {
@@ -121,6 +121,9 @@ fn call(tokens: &[Token], place: usize) -> Option<Call> {
     }
     if text(tokens, place + 1) == "!" && ["(", "[", "{"].contains(&text(tokens, place + 2)) {
         return Some(other(&token, &format!("{}!", token.text)));
+    }
+    if text(tokens, place + 1) == "::" && text(tokens, place + 2).starts_with('<') {
+        return Some(other(&token, &format!("{}::<..>", token.text)));
     }
     // A capital begins a value that is built, not a function.
     if text(tokens, place + 1) != "(" || token.text.starts_with(char::is_uppercase) {
@@ -201,6 +204,7 @@ mod tests {
         assert_eq!(calls("a.f(8).f(4)"), [".f", ".f"]);
         assert_eq!(calls("x[..f(1)] + y[g(2)..h(3)]"), ["f", "g", "h"]);
         assert_eq!(calls("assert!(a) + (b)(c) + d[0](e)"), ["assert!", "a value", "a value"]);
+        assert_eq!(calls("f::<u8>(a) + { g }(b)"), ["f::<..>", "a value"]);
     }
 
     #[test]

@@ -66,7 +66,8 @@ impl Program {
         Program { items, crates, scopes, by_name, modules, handed_on, from_the_kit }
     }
 
-    /// The functions that the calls of an item may reach, and the constants that it names.
+    /// The functions that the calls of an item may reach, and the constants that it names. A function that is a value
+    /// the language does not have.
     pub fn reached_by(&self, item: &Item) -> BTreeSet<usize> {
         let calls = item.body.calls.iter().flat_map(|call| match self.target(item, call) {
             Target::Items(items) => items,

@@ -5,7 +5,7 @@
 //! 2. From every exported call that a drive makes what is divided is divided by a number that is written out and is a
 //!    power of two. A drive does not run the bench, and it neither seals sectors nor checks their parity.
 
-use crate::body::{Call, Division};
+use crate::body::{Call, Division, Form};
 use crate::items::Item;
 use crate::program::{Program, Target};
 use crate::reach::Reach;
@@ -132,6 +132,10 @@ impl Rule {
     fn fault_of_call(self, call: &Call, target: &Target) -> Option<String> {
         let told = call.told();
         match (target, self) {
+            // Of a number it would be the standard library's, whatever methods of that name are here.
+            (Target::Items(_), _) if call.form == Form::Method && is_of_a_division(&call.name) => {
+                Some(format!("calls `{told}`, which divides by its name"))
+            }
             (Target::Items(_), _) => None,
             (Target::Unknown, _) => {
                 Some(format!("calls `{told}`, which is neither a function of the crates nor of the kit"))

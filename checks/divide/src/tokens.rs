@@ -46,7 +46,7 @@ fn piece(rest: &str, first: char) -> Result<(Option<Kind>, usize), String> {
         return Err("a comment that is not of one line cannot be read".to_string());
     }
     if rest.starts_with('"') || rest.starts_with("b\"") {
-        let length = string_length(rest).ok_or("a string has no end")?;
+        let length = string_length(rest).ok_or("a string has no end in its line")?;
         return Ok((Some(Kind::Quoted), length));
     }
     if let Some(length) = byte_length(rest) {
@@ -68,6 +68,9 @@ fn string_length(rest: &str) -> Option<usize> {
     let start = rest.find('"')? + 1;
     let mut escaped = false;
     for (place, byte) in rest.bytes().enumerate().skip(start) {
+        if byte == b'\n' {
+            return None;
+        }
         if byte == b'"' && !escaped {
             return Some(place + 1);
         }

@@ -1,4 +1,4 @@
-// An answer as one number, and an address from three.
+// An answer as one number, also one whose result is an address, and an address from three.
 use sector::Address;
 ghost use mathlib.Core.Path.{_≡_};
 ghost use mathlib.Core.Bool.{true};

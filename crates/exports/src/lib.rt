@@ -88,7 +88,7 @@ pub extern "C" fn cdrom_parity(sector: &[u8]) -> u32
 }
 
 // The address that follows an address.
-// Ruled out: one that goes on from an address that there is not, and one that answers the second in the minute's place.
+// Ruled out: one that goes on from an address that there is not, and one that answers the second in the frame's place.
 #[no_mangle]
 pub extern "C" fn cdrom_next_address(minute: u16, second: u16, frame: u16) -> u32
     ensures { λ r. ⌜ r ≡ next-address-word (at minute second frame) ⌝ }

@@ -16,11 +16,12 @@ module _ (b x k : ℕ) (some : 0 < k) where
   pub within : b * k ≤ x → b ≡ min b (x / k)
   within h = let l : b ≤ x / k = le-div-iff-mul-le {k = k} {x = b} {y = x} some .1 h in omega arith
 
--- the product goes down with the number
-pub one-off : (b k : ℕ) → b * k - k ≡ (b - 1) * k
-one-off b k =
+-- a product with one less
+pub product-less-one : (b k : ℕ) → b * k - k ≡ (b - 1) * k
+product-less-one b k =
     let e : k * 1 ≡ k = omega arith in
     sym (mul-comm (b - 1) k ∙ mul-sub k b 1 ∙ ap (λ (n : ℕ). n - k * 1) (mul-comm k b) ∙ ap (λ (n : ℕ). b * k - n) e)
 
-pub one-in : (b k : ℕ) → 0 < b → k ≤ b * k
-one-in b k h = let l = mul-le-mul-right {m = 1} {n = b} k h in omega arith
+-- a product is not below its factor
+pub factor-within : (b k : ℕ) → 0 < b → k ≤ b * k
+factor-within b k h = let l = mul-le-mul-right {m = 1} {n = b} k h in omega arith

@@ -17,8 +17,8 @@ pub struct Place {
     pub last: u16,
 }
 
-// k blocks after block t, turn by turn, so that nothing is divided. In a sound chip no event goes further than TCC blocks, which is less than a turn: then
-// there is one subtraction at most.
+// k blocks after block t, turn by turn, so that nothing is divided. In a sound chip a step is of one block, or of at most TCC, which is below N: then one turn
+// is taken off at most.
 fn after(t: u16, k: u16, n: u16) -> u16
     requires { ⌜ 0 < n ⌝ }
     ensures { λ r. ⌜ r ≡ (t + k) % n ⌝ }
@@ -71,15 +71,12 @@ impl Place {
         let b = self.b;
         match event {
             Event::Stay => self,
-            Event::Store => {
-                let next = after(b, 1, n);
-                Place {
-                    n: n,
-                    t: t,
-                    b: next,
-                    last: b,
-                }
-            }
+            Event::Store => Place {
+                n: n,
+                t: t,
+                b: after(b, 1, n),
+                last: b,
+            },
             Event::Advance(k) => {
                 let next = after(t, k, n);
                 self.t = next;

@@ -99,8 +99,9 @@ pub use sectors::{edc, judge, next_address, open, parity, seal, seal_xa, Address
 pub use sectors::{SECTOR_BYTES, USER_BYTES, USER_OFFSET};
 pub use sectors::{WHY_ADDRESS, WHY_EDC, WHY_MODE, WHY_SYNC};
 
-/// The version of `include/cdrom.h` that this crate declares. Since 6 there is [`next_address`]. Since 5 sectors of mode 2 are taken ([`Kind`]), and
-/// [`seal_xa`] makes them. Since 4 the bytes of a start do not pass 65,534 ([`ADTT`](registers::ADTT)). Since 3
-/// [`seal`] writes the parity, and [`parity`] checks it. Since 2 [`judge`] gives [`Facts`] and [`Chip::why`] those of
-/// the last sector, and a [`Record`] that was kept under 1 must not be handed over.
+/// The version of `include/cdrom.h` that this crate declares. Since 6 there is [`next_address`]. Since 5 sectors of
+/// mode 2 are taken ([`Kind`]), and [`seal_xa`] makes them. Since 4 the bytes of a start do not pass 65,534
+/// ([`ADTT`](registers::ADTT)). Since 3 [`seal`] writes the parity, and [`parity`] checks it. Since 2 [`judge`] gives
+/// [`Facts`] and [`Chip::why`] those of the last sector, and a [`Record`] that was kept under 1 must not be handed
+/// over.
 pub const VERSION: u32 = 6;

@@ -4,7 +4,7 @@ use mathlib.Core.Path.{_≡_, refl, sym, ap, _∙_}
 use Prim.Native.Nat.{ℕ, _-_, _*_, _/_, _<_, min}
 use native.Mathlib.Nat.{mul-div-mul-right, mul-le-mul}
 use native.Mathlib.Omega.{arith}
-use Rattle.laws.proofs.Quotient.{above, one-less, within, one-off, one-in}
+use Rattle.laws.proofs.Quotient.{above, one-less, within, product-less-one, factor-within}
 use Rattle.controller.proofs.transfer.within_words.Statement.{statement}
 use Rattle.controller.proofs.transfer.within_words.Tie as tie
 
@@ -27,7 +27,7 @@ sub-total c =
     let l = c .before .loop in
     let o = c .before .before in
     let some = above (l .blocks) 32767 (o .args .words) (o .pre) (omega (arith, l .inv .0)) in
-    omega (arith, l .inv .0, one-in (l .blocks) (o .args .words) (omega arith))
+    omega (arith, l .inv .0, factor-within (l .blocks) (o .args .words) (omega arith))
 
 sub-blocks : tie.Need-sub-blocks Inv-loop μ-loop
 sub-blocks c =
@@ -47,7 +47,7 @@ loop-again c =
     let o = c .before .before in
     let w = o .args .words in
     let over : 32767 < l .blocks * w = omega (arith, l .inv .0) in
-    (ap (λ (n : ℕ). n - w) (l .inv .0) ∙ one-off (l .blocks) w, one-less (l .blocks) 32767 w (o .pre) over ∙ l .inv .1)
+    (ap (λ (n : ℕ). n - w) (l .inv .0) ∙ product-less-one (l .blocks) w, one-less (l .blocks) 32767 w (o .pre) over ∙ l .inv .1)
 
 returns : tie.Need-returns Inv-loop μ-loop
 returns c =

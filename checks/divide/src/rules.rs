@@ -3,7 +3,8 @@
 //! 1. From the step to the next address and from the comparison of the expected address with a sector's nothing is
 //!    divided, not even by a power of two, and nothing is called whose source is not here.
 //! 2. From every exported call that a drive makes what is divided is divided by a number that is written out and is a
-//!    power of two. A drive does not run the bench, and it neither seals sectors nor checks their parity.
+//!    power of two. The bench, sealing and the parity check are left out: no running sector and no host word reaches
+//!    them.
 
 use crate::body::{Call, Division, Form};
 use crate::items::Item;

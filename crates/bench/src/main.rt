@@ -1,5 +1,7 @@
 // The bench: lines of calls on standard input or in a file, a line of answer for each on standard output. What a line means, does and prints, and
 // that each is run once and in order, is the library's, `script`; this program reads and writes. Its contracts keep the buffers' bounds.
+#![tactic(auto)]
+
 mod args;
 
 ghost use Rattle.std.specs.Prelude.{◌+◌, ◌≤◌, ◌≡◌, length};

@@ -1,5 +1,7 @@
 // The host's words in bursts. Up to a block's last word nothing changes but the transfer's position, so these words are copied at once; the
 // last goes through the chip's own call.
+#![tactic(auto)]
+
 mod copy;
 
 ghost use Rattle.std.specs.Prelude.{◌≡◌, ◌+◌, ◌<◌, ◌≤◌, length, take, drop};

@@ -1,5 +1,7 @@
 // The calls of the chip that are lent no memory (paper 01, "Registers", "Host and transfers"). Arguments are wider than their ranges, so
 // that any number can be handed over and gets its refusal.
+#![tactic(auto)]
+
 use sector::Address;
 
 // PacketByte reads a byte of a full packet, PacketWord gives a word to one that is being received.

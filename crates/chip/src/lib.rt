@@ -1,5 +1,7 @@
 // The chip: controller and ring's place as one record that each call takes and gives back, with the ring's memory lent where a
 // call touches it.
+#![tactic(auto)]
+
 mod memory;
 mod plain;
 mod sound;

@@ -1,5 +1,7 @@
 // The controller: counters, switches, host registers, transfers and packets of the W88113C as paper 01 has them.
 // Each call answers a step, whose event says what becomes of the ring; of the ring a call is told no more than `RingFacts`.
+#![tactic(auto)]
+
 mod decoder;
 mod dispatch;
 mod host;

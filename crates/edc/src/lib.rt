@@ -3,6 +3,8 @@
 // x^(31s) + x^(15s) + x^(3s) + 1 is a multiple of the generator for s = 2, 4, .., 64, so that a unit of s bits may be moved on by
 // 16, 28 and 31 units. Words of 64 bits are divided by the multiple of s = 64, in a ring of the last 32 words of the quotient. What the
 // ring stands for is folded by the lesser scales to one word, and the register comes out of that. docs/EDC.md tells the method.
+#![tactic(auto)]
+
 mod division;
 mod folding;
 mod register;

@@ -1,6 +1,8 @@
 // The calls on sectors, the chip and the bench for C and Rust; include/cdrom.h declares them and says what a C caller must keep. A slice is
 // passed as a pointer and then a length, an array or a number that is lent as a pointer. None has a precondition: any bytes, of any number,
 // any words of a record, any address, kind and subheader are answered, and a refusal changes no byte. The chip's calls are in `plain` and `memory`.
+#![tactic(auto)]
+
 mod answer;
 mod memory;
 mod plain;

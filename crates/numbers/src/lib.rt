@@ -1,4 +1,6 @@
 // Numbers that the code shares: what is not about CD-ROMs.
+#![tactic(auto)]
+
 ghost use Rattle.std.specs.Prelude.{◌≡◌, ◌-◌, ◌%◌, ◌<◌, ◌≤◌, min};
 ghost use Rattle.laws.specs.Numbers.{weight};
 

@@ -1,4 +1,6 @@
 // The P and Q parity of a sector (ECMA-130, Annex A; paper 02, ask 2): written behind its data, and checked. docs/PARITY.md tells the method.
+#![tactic(auto)]
+
 mod field;
 mod rows;
 mod symbols;

@@ -1,4 +1,6 @@
 // The reply to a call (paper 01, "Reply numbers"), and its two kinds: a refusal and an answer.
+#![tactic(auto)]
+
 ghost use Rattle.std.specs.Prelude.{◌≡◌};
 ghost use Rattle.reply.specs.Reply.{refusal, answer};
 

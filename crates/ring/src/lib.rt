@@ -1,5 +1,7 @@
 // The ring's place: the number of blocks, the transfer block, the next block to fill and the last decoded one
 // (paper 01, "The ring"). Only here is anything taken modulo the number of blocks.
+#![tactic(auto)]
+
 mod memory;
 
 ghost use Rattle.std.specs.Prelude.{◌≡◌, ◌+◌, ◌%◌, ◌<◌};

@@ -1,5 +1,7 @@
 // Scrambling of a sector (ECMA-130, Annex B; paper 01, "Sectors"): bytes 12 to 2,351 are xored with a fixed run of bytes, the
 // sync bytes before them stay. Descrambling is the same.
+#![tactic(auto)]
+
 ghost use Rattle.std.specs.Prelude.{◌≡◌, length};
 ghost use Rattle.scramble.specs.Scramble.{xored, scrambled};
 

@@ -1,5 +1,7 @@
 // The bench: a line of input, given to the chip that is open, and the line that is printed; and the lines of a text, one after the other
 // (paper 01, "Bench cases").
+#![tactic(auto)]
+
 mod call;
 mod disc;
 mod lines;

@@ -1,6 +1,8 @@
 // Sectors of mode 1 and mode 2 (ECMA-130, clause 14; paper 01, "Sectors"; paper 02, ask 4): sealing user data at an address, opening a sector, judging an opened one and
 // checking its parity, and receiving one from the disc. All but the last are total: each answers every input with a reply number, and a refusal
 // changes no byte.
+#![tactic(auto)]
+
 ghost use Rattle.std.specs.Prelude.{◌≡◌, true, length};
 ghost use Rattle.sector.specs.Address.{valid};
 ghost use Rattle.sector.specs.Receive.{received};

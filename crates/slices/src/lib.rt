@@ -1,4 +1,6 @@
 // Slices of bytes: what is not about CD-ROMs.
+#![tactic(auto)]
+
 ghost use Rattle.std.specs.Prelude.{◌≡◌, ◌+◌, ◌-◌, ◌<◌, length, replicate};
 ghost use Rattle.laws.specs.Bytes.{word_at, inverted};
 ghost use Rattle.laws.specs.Same.{same};

@@ -74,6 +74,9 @@ head_24 l a h s hd y u e f =
     ap₂ (λ (x z : List ℕ). x ++ z) (f ∙ e ∙ ap (λ (n : ℕ). take n (full_head l.mode a h)) (sym u)) (ap (λ (n : ℕ). drop n s) (sym u))
 
 -- the code with n zeros behind it
+length_code : (e n : ℕ) → length (low4 e ++ replicate n 0) ≡ 4 + n
+length_code e n = length-append (low4 e) (replicate n 0) ∙ ap (λ (k : ℕ). 4 + k) (length-replicate {A = ℕ} n 0)
+
 pub tail_copied : (e n m : ℕ) (xs s y : List ℕ) → xs ≡ low4 e ++ replicate n 0 → m ≡ 4 + n → y ≡ xs
     → y ++ drop m s ≡ (low4 e ++ replicate n 0) ++ drop (4 + n) s
 tail_copied e n m xs s y same size f = ap₂ (λ (x z : List ℕ). x ++ z) (f ∙ same) (ap (λ (k : ℕ). drop k s) size)

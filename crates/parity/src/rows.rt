@@ -27,9 +27,9 @@ fn first_row(s: &[u8], masked: bool) -> [u8; 86]
 {
     let mut row = [0u8; 86];
     if masked {
-        bytes::copy(&s[16..98], &mut row[4..]);
+        row[4..].copy_from_slice(&s[16..98]);
     } else {
-        bytes::copy(&s[12..98], &mut row);
+        row.copy_from_slice(&s[12..98]);
     }
     row
 }

@@ -32,8 +32,8 @@ pub fn put(parity: &mut [u8], first: &[u8], second: &[u8])
     ensures { parity.new ≡ first.now ++ second.now }
 {
     let n = first.len();
-    bytes::copy(first, parity);
-    bytes::copy(second, &mut parity[n..]);
+    parity[..n].copy_from_slice(first);
+    parity[n..].copy_from_slice(second);
 }
 
 // Whether the words hold that have the sums a and b of their data, and then the symbols of x and of y.

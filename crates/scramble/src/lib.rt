@@ -50,6 +50,6 @@ pub fn scramble_into(dst: &mut [u8], src: &[u8])
     ensures { dst.new ≡ scrambled src.now }
 {
     let t = table::table();
-    bytes::copy(&src[..12], dst);
+    dst[..12].copy_from_slice(&src[..12]);
     xor_into(&mut dst[12..2352], &src[12..2352], &t);
 }

@@ -17,7 +17,7 @@ fn full_head(mode: u8, address: Address, subheader: Subheader) -> [u8; 24]
 {
     let a = header::bytes_of(address);
     let mut head = [0; 24];
-    bytes::copy(&SYNC, &mut head);
+    head[..12].copy_from_slice(&SYNC);
     head[12] = a[0];
     head[13] = a[1];
     head[14] = a[2];
@@ -55,9 +55,9 @@ fn put_head(sector: &mut [u8], layout: Layout, address: Address, subheader: Subh
 {
     let head = full_head(layout.mode, address, subheader);
     if layout.user == 16 {
-        bytes::copy(&head[..16], sector);
+        sector[..16].copy_from_slice(&head[..16]);
     } else {
-        bytes::copy(&head, sector);
+        sector[..24].copy_from_slice(&head);
     }
 }
 
@@ -70,9 +70,9 @@ fn put_tail(part: &mut [u8], code: u32, zeros: usize)
 {
     let b = code_bytes(code);
     if zeros == 8 {
-        bytes::copy(&[b[0], b[1], b[2], b[3], 0, 0, 0, 0, 0, 0, 0, 0], part);
+        part[..12].copy_from_slice(&[b[0], b[1], b[2], b[3], 0, 0, 0, 0, 0, 0, 0, 0]);
     } else {
-        bytes::copy(&b, part);
+        part[..4].copy_from_slice(&b);
     }
 }
 

@@ -73,8 +73,8 @@ fn has_argument(rt: &impl Env, number: usize) -> bool {
     !matches!(rt.arg(number, &mut []), Err(FillError::NotPresent))
 }
 
-// Where to read from.
-pub(crate) fn source<R: Env + Files + Print + Eprint>(rt: &R) -> Source<R::File> {
+// What the arguments ask for.
+pub(crate) fn requested<R: Env + Files + Print + Eprint>(rt: &R) -> Source<R::File> {
     if has_argument(rt, 2) {
         return refused(rt);
     }

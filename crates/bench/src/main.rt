@@ -262,7 +262,7 @@ fn run<R: Print + Eprint, I: Read>(rt: &R, from: &mut I) {
 }
 
 fn main(rt: HostRuntime) {
-    match args::source(&rt) {
+    match args::requested(&rt) {
         Source::Nothing => {}
         Source::Standard => run(&rt, &mut rt.stdin()),
         Source::Opened(mut file) => run(&rt, &mut file),

@@ -78,10 +78,10 @@ fn failure(words: &str, t: Tally) -> Tally {
     u
 }
 
-// Nothing more is read.
-fn ended(tally: Tally, r: Reading) -> Reading {
+// Tells what is wrong; nothing more is read.
+fn ended(words: &str, r: Reading) -> Reading {
     Reading {
-        tally,
+        tally: failure(words, r.tally),
         records: r.records,
         mode1: r.mode1,
         form1: r.form1,
@@ -100,22 +100,21 @@ fn counted(count: u32, kind: u8, of: u8) -> u32 {
 
 // One record more, run by its kind: 1 is mode 1, 2 is mode 2 form 1, and 3 is mode 2 form 2.
 fn take(bytes: &[u8], r: Reading) -> Reading {
-    let t = r.tally;
     if bytes.len() != 7052 {
-        return ended(failure(" whole records", t), r);
+        return ended(" whole records", r);
     }
-    let number = r.records;
     let kind = bytes[0];
     if (kind < 1) | (3 < kind) {
-        return ended(failure(" kinds 1 to 3", t), r);
+        return ended(" kinds 1 to 3", r);
     }
-    let mut next = r;
-    next.records = number.wrapping_add(1);
-    next.mode1 = counted(r.mode1, kind, 1);
-    next.form1 = counted(r.form1, kind, 2);
-    next.form2 = counted(r.form2, kind, 3);
-    next.tally = record::checks(number, bytes, t);
-    next
+    Reading {
+        tally: record::checks(r.records, bytes, r.tally),
+        records: r.records.wrapping_add(1),
+        mode1: counted(r.mode1, kind, 1),
+        form1: counted(r.form1, kind, 2),
+        form2: counted(r.form2, kind, 3),
+        goes_on: true,
+    }
 }
 
 fn read_one<I: Read>(from: &mut I, r: Reading) -> Reading {

@@ -14,7 +14,7 @@ use copy::copy_words;
 use numbers::{least_length, less};
 
 // The chip after a burst, how many words were handed over, and the number of the refusal that ended it, or 0.
-#[derive(Drop)]
+#[derive(Clone, Copy)]
 pub struct Burst {
     pub chip: Chip,
     pub handed: usize,

@@ -5,7 +5,7 @@
 use sector::Address;
 
 // PacketByte reads a byte of a full packet, PacketWord gives a word to one that is being received.
-#[derive(Drop)]
+#[derive(Clone, Copy)]
 pub enum Call {
     Write(u16, u16),
     Read(u16),

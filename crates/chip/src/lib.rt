@@ -15,33 +15,33 @@ use controller::{Controller, Step};
 use reply::Reply;
 use ring::Place;
 
-#[derive(Drop)]
+#[derive(Clone, Copy)]
 pub struct Chip {
     pub controller: Controller,
     pub place: Place,
 }
 
-#[derive(Drop)]
+#[derive(Clone, Copy)]
 pub struct Told {
     pub chip: Chip,
     pub reply: Reply,
 }
 
 // A word is handed over or a refusal, never both.
-#[derive(Drop)]
+#[derive(Clone, Copy)]
 pub enum Word {
     Handed(u16),
     Refused(u8),
 }
 
-#[derive(Drop)]
+#[derive(Clone, Copy)]
 pub struct WordTold {
     pub chip: Chip,
     pub word: Word,
 }
 
 // A part of the ring: its first byte and how many it has.
-#[derive(Drop)]
+#[derive(Clone, Copy)]
 pub struct Part {
     pub start: usize,
     pub size: usize,

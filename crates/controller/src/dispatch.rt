@@ -7,6 +7,7 @@ use crate::step::{RingFacts, Step};
 use calls::Call;
 
 impl Controller {
+    #[tactic(auto, unfolding(crate::specs::Calls::stepped))]
     pub fn step(self, call: Call, ring: RingFacts) -> Step
         requires { self.packet.received < 6 }
         ensures { result ≡ stepped self call ring }

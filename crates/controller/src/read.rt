@@ -50,6 +50,7 @@ impl Controller {
             + wide(self.acctl.atlim)
     }
 
+    #[tactic(auto, unfolding(crate::specs::Read::read))]
     pub fn read(self, reg: u16, ring: RingFacts) -> Step
         ensures { result ≡ read self reg ring }
     {

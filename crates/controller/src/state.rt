@@ -5,7 +5,7 @@ ghost use Rattle.controller.specs.State.{initial};
 use sector::{Address, Judgement};
 
 // TCC (9Dh), BUFC (9Bh), TTC (9Fh). held: a bad sector was stored and DECEN has not been low since.
-#[derive(Drop)]
+#[derive(Clone, Copy)]
 pub struct Counts {
     pub tcc: u16,
     pub bufc: u16,
@@ -14,7 +14,7 @@ pub struct Counts {
 }
 
 // DECEN of CTRL0 (0Ah), BLIMEN and BLIMS of BICCTL (9Ah), BUFLIM (9Bh).
-#[derive(Drop)]
+#[derive(Clone, Copy)]
 pub struct Buffering {
     pub decen: bool,
     pub blimen: bool,
@@ -23,7 +23,7 @@ pub struct Buffering {
 }
 
 // ACCTL (9Ch).
-#[derive(Drop)]
+#[derive(Clone, Copy)]
 pub struct Acctl {
     pub atten: bool,
     pub acmen: bool,
@@ -32,7 +32,7 @@ pub struct Acctl {
 }
 
 // ASCTRL (18h).
-#[derive(Drop)]
+#[derive(Clone, Copy)]
 pub struct Asctrl {
     pub apkten: bool,
     pub adcen: bool,
@@ -43,7 +43,7 @@ pub struct Asctrl {
 }
 
 // ATSTA (written at 37h, read at 38h).
-#[derive(Drop)]
+#[derive(Clone, Copy)]
 pub struct Atsta {
     pub bsy: bool,
     pub drdy: bool,
@@ -54,7 +54,7 @@ pub struct Atsta {
 }
 
 // ASCSTA (3Eh): what status completion puts into ATSTA.
-#[derive(Drop)]
+#[derive(Clone, Copy)]
 pub struct Ascsta {
     pub drdy: bool,
     pub corr: bool,
@@ -62,7 +62,7 @@ pub struct Ascsta {
 }
 
 // ATERR (31h), ATINT (32h), ATBLO (34h), ATBHI (35h), ATCMD (read at 37h).
-#[derive(Drop)]
+#[derive(Clone, Copy)]
 pub struct Task {
     pub aterr: u8,
     pub atint: u8,
@@ -72,14 +72,14 @@ pub struct Task {
 }
 
 // The part of a block that is transferred. No window has 0 words.
-#[derive(Drop)]
+#[derive(Clone, Copy)]
 pub struct Window {
     pub offset: u16,
     pub words: u16,
 }
 
 // left: blocks of the transfer not yet read whole. position: words read of the present one.
-#[derive(Drop)]
+#[derive(Clone, Copy)]
 pub struct Transfer {
     pub running: bool,
     pub left: u16,
@@ -87,7 +87,7 @@ pub struct Transfer {
 }
 
 // APKT and FPKT of MISS2 (30h), the packet's bytes, and how many words of it have come.
-#[derive(Drop)]
+#[derive(Clone, Copy)]
 pub struct Packet {
     pub apkt: bool,
     pub fpkt: bool,
@@ -97,7 +97,7 @@ pub struct Packet {
 }
 
 // adsc is bit 4 of APKSTA (3Dh); judgement is of the last stored sector, shown by TARSTA (80h); mbc is MBTC0 (12h).
-#[derive(Drop)]
+#[derive(Clone, Copy)]
 pub struct Controller {
     pub counts: Counts,
     pub expected: Address,

@@ -7,7 +7,7 @@ use reply::Reply;
 
 // Stay: the ring is as it was. Store: block B was filled, B goes on. Advance: T goes on by so many blocks.
 // Rewind: B comes to stand so many blocks after T. Move: T and B come to stand at a block. Clear: as opened.
-#[derive(Drop)]
+#[derive(Clone, Copy)]
 pub enum Event {
     Stay,
     Store,
@@ -18,14 +18,14 @@ pub enum Event {
 }
 
 // What a call is told of the ring: the number of blocks, which bounds BUFLIM and T, and the block numbers that are read.
-#[derive(Drop)]
+#[derive(Clone, Copy)]
 pub struct RingFacts {
     pub n: u16,
     pub t: u16,
     pub last: u16,
 }
 
-#[derive(Drop)]
+#[derive(Clone, Copy)]
 pub struct Step {
     pub controller: Controller,
     pub event: Event,

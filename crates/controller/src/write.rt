@@ -282,6 +282,7 @@ impl Controller {
     }
 
     // n is the number of blocks.
+    #[tactic(auto, unfolding(crate::specs::Write::write))]
     pub fn write(self, reg: u16, value: u16, n: u16) -> Step
         ensures { result ≡ write self reg value n }
     {

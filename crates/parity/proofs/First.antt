@@ -7,7 +7,6 @@ use native.Mathlib.Omega.{arith}
 use lib.ListN.{length, get_or, take, drop}
 use Rattle.laws.specs.Listed.{listed}
 use Rattle.laws.proofs.Listed.{listed_of}
-use Rattle.laws.proofs.Parts.{copied_over}
 use Rattle.laws.proofs.Window.{length_window, get_d_window}
 use Rattle.parity.specs.Layout.{value_at}
 use Rattle.parity.proofs.Places.{value_at_outside}
@@ -19,14 +18,11 @@ module _ (s : List ℕ) (size : length s ≡ 2352) where
   rest_length : length (take 82 (drop 16 s)) ≡ 82
   rest_length = length_window 16 82 s (omega arith)
 
-  -- d are the bytes that were written over, l what was left
-  module _ (d l : List ℕ) where
-    pub as_it_is : (z : Bool) → z ≡ false → length d ≡ 86
-        → l ≡ take (length (take 86 (drop 12 s))) (take 86 (drop 12 s)) ++ drop (length (take 86 (drop 12 s))) d → l ≡ listed 86 (λ k. value_at z s (12 + k))
-    as_it_is true z n e = absurd (mathlib.Core.Bool.false≢true (sym z))
-    as_it_is false z n e =
-        copied_over (take 86 (drop 12 s)) d l (n ∙ sym row_length) e
-        ∙ listed_of 86 (λ k. value_at false s (12 + k)) (take 86 (drop 12 s)) row_length (λ k h. get_d_window 12 86 k 0 s h)
+  -- l is what was copied
+  module _ (l : List ℕ) where
+    pub as_it_is : (z : Bool) → z ≡ false → l ≡ take 86 (drop 12 s) → l ≡ listed 86 (λ k. value_at z s (12 + k))
+    as_it_is true z e = absurd (mathlib.Core.Bool.false≢true (sym z))
+    as_it_is false z e = e ∙ listed_of 86 (λ k. value_at false s (12 + k)) (take 86 (drop 12 s)) row_length (λ k h. get_d_window 12 86 k 0 s h)
 
     -- behind four zeros
     zeros_at : (k : ℕ) → k < 86 → get_or (0 ∷ 0 ∷ 0 ∷ 0 ∷ take 82 (drop 16 s)) k 0 ≡ value_at true s (12 + k)
@@ -38,10 +34,8 @@ module _ (s : List ℕ) (size : length s ≡ 2352) where
         let place : 16 + k ≡ 12 + suc (suc (suc (suc k))) = omega arith in
         get_d_window 16 82 k 0 s (omega arith) ∙ sym (value_at_outside true s (16 + k) (omega arith)) ∙ ap (value_at true s) place
 
-    pub with_zeros : (z : Bool) → z ≡ true → length d ≡ 82
-        → l ≡ take (length (take 82 (drop 16 s))) (take 82 (drop 16 s)) ++ drop (length (take 82 (drop 16 s))) d
-        → 0 ∷ 0 ∷ 0 ∷ 0 ∷ l ++ [] ≡ listed 86 (λ k. value_at z s (12 + k))
-    with_zeros false z n e = absurd (mathlib.Core.Bool.false≢true z)
-    with_zeros true z n e =
-        ap (λ (x : List ℕ). 0 ∷ 0 ∷ 0 ∷ 0 ∷ x) (append-nil l ∙ copied_over (take 82 (drop 16 s)) d l (n ∙ sym rest_length) e)
+    pub with_zeros : (z : Bool) → z ≡ true → l ≡ take 82 (drop 16 s) → 0 ∷ 0 ∷ 0 ∷ 0 ∷ l ++ [] ≡ listed 86 (λ k. value_at z s (12 + k))
+    with_zeros false z e = absurd (mathlib.Core.Bool.false≢true z)
+    with_zeros true z e =
+        ap (λ (x : List ℕ). 0 ∷ 0 ∷ 0 ∷ 0 ∷ x) (append-nil l ∙ e)
         ∙ listed_of 86 (λ k. value_at true s (12 + k)) (0 ∷ 0 ∷ 0 ∷ 0 ∷ take 82 (drop 16 s)) (ap (λ (n : ℕ). suc (suc (suc (suc n)))) rest_length) zeros_at

@@ -8,13 +8,13 @@ ghost use Rattle.parity.specs.Rows.{view, Taken, Sums, p_lane, q_lane, met, in_w
 use super::field::times_x;
 
 // The sums of the data of every P word, plain and weighted; and of every Q word.
-#[derive(Drop)]
+#[derive(Clone, Copy)]
 pub struct Columns {
     pub plain: [u8; 86],
     pub weighted: [u8; 86],
 }
 
-#[derive(Drop)]
+#[derive(Clone, Copy)]
 pub struct Diagonals {
     pub plain: [u8; 52],
     pub weighted: [u8; 52],

@@ -15,7 +15,7 @@ ghost use Rattle.reply.specs.Reply.{refusal, answer};
 //   7  sector with DECEN low
 //   8  sector after a bad one, DECEN not yet taken low
 //   9  sector, and the ring is at its stop
-#[derive(Drop)]
+#[derive(Clone, Copy)]
 pub struct Reply {
     pub number: u8,
     pub result: u16,

@@ -10,7 +10,7 @@ ghost use Rattle.ring.specs.Place.{opened, ring_facts, full, place_step, PlaceSo
 use controller::{Event, RingFacts};
 pub use memory::{store, word_of};
 
-#[derive(Drop)]
+#[derive(Clone, Copy)]
 pub struct Place {
     pub n: u16,
     pub t: u16,

@@ -11,7 +11,7 @@ use syntax::line::Line;
 use syntax::print::Shown;
 
 // Whether a chip is open, the chip, the reply number and the result that is printed.
-#[derive(Drop)]
+#[derive(Clone, Copy)]
 pub struct Answer {
     pub opened: bool,
     pub chip: Chip,

@@ -7,14 +7,14 @@ use sector::Subheader;
 use syntax::line::Line;
 
 // So many bytes from a place on arrive inverted.
-#[derive(Drop)]
+#[derive(Clone, Copy)]
 pub struct Damage {
     pub from: u16,
     pub count: u16,
 }
 
 // The kind and the subheader of sector lines, and how the next one arrives.
-#[derive(Drop)]
+#[derive(Clone, Copy)]
 pub struct Carried {
     pub kind: u16,
     pub subheader: Subheader,

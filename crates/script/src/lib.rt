@@ -16,7 +16,7 @@ pub use lines::{Fed, feed};
 pub use syntax::print::ROOM;
 
 // Whether a chip is open, the chip, what sectors carry, and how many lines there have been.
-#[derive(Drop)]
+#[derive(Clone, Copy)]
 pub struct Bench {
     pub opened: bool,
     pub chip: Chip,
@@ -25,7 +25,7 @@ pub struct Bench {
 }
 
 // The bench after a line, and the length of the printed line.
-#[derive(Drop)]
+#[derive(Clone, Copy)]
 pub struct Ran {
     pub bench: Bench,
     pub size: usize,

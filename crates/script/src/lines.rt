@@ -7,7 +7,7 @@ use bytes::scan::find;
 use syntax::print::ROOM;
 
 // The bench after some lines, how many bytes of the text they took, and how many were printed.
-#[derive(Drop)]
+#[derive(Clone, Copy)]
 pub struct Fed {
     pub bench: Bench,
     pub taken: usize,

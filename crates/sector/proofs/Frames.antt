@@ -63,24 +63,23 @@ module _ (l : Layout) (a : Address) (h : Subheader) (f : Fits l) where
         ∙ drop-drop (end l - l.user) l.user s ∙ ap (λ (n : ℕ). drop n s) rest
 
 -- the head is copied to the front: 16 bytes of all 24, or all of them
-pub head_16 : (l : Layout) (a : Address) (h : Subheader) (s hd d : List ℕ) → Fits l → l.user ≡ 16 → hd ≡ full_head l.mode a h
-    → d ≡ take (length (take 16 hd)) (take 16 hd) ++ drop (length (take 16 hd)) s → d ≡ head l a h ++ drop l.user s
-head_16 l a h s hd d f u e =
-    copied_as (take 16 hd) (head l a h) s d l.user
-    (ap (take 16) e ∙ ap (λ (n : ℕ). take n (full_head l.mode a h)) (sym u)) (length_head l a h f)
+pub head_16 : (l : Layout) (a : Address) (h : Subheader) (s hd y : List ℕ) → l.user ≡ 16 → hd ≡ full_head l.mode a h → y ≡ take 16 hd
+    → y ++ drop 16 s ≡ head l a h ++ drop l.user s
+head_16 l a h s hd y u e f =
+    ap₂ (λ (x z : List ℕ). x ++ z) (f ∙ ap (take 16) e ∙ ap (λ (n : ℕ). take n (full_head l.mode a h)) (sym u)) (ap (λ (n : ℕ). drop n s) (sym u))
 
-pub head_24 : (l : Layout) (a : Address) (h : Subheader) (s hd d : List ℕ) → Fits l → l.user ≡ 24 → hd ≡ full_head l.mode a h
-    → d ≡ take (length hd) hd ++ drop (length hd) s → d ≡ head l a h ++ drop l.user s
-head_24 l a h s hd d f u e =
-    copied_as hd (head l a h) s d l.user (e ∙ ap (λ (n : ℕ). take n (full_head l.mode a h)) (sym u)) (length_head l a h f)
+pub head_24 : (l : Layout) (a : Address) (h : Subheader) (s hd y : List ℕ) → l.user ≡ 24 → hd ≡ full_head l.mode a h → y ≡ hd
+    → y ++ drop 24 s ≡ head l a h ++ drop l.user s
+head_24 l a h s hd y u e f =
+    ap₂ (λ (x z : List ℕ). x ++ z) (f ∙ e ∙ ap (λ (n : ℕ). take n (full_head l.mode a h)) (sym u)) (ap (λ (n : ℕ). drop n s) (sym u))
 
 -- the code with n zeros behind it
 length_code : (e n : ℕ) → length (low4 e ++ replicate n 0) ≡ 4 + n
 length_code e n = length-append (low4 e) (replicate n 0) ∙ ap (λ (k : ℕ). 4 + k) (length-replicate {A = ℕ} n 0)
 
-pub tail_copied : (e n : ℕ) (xs s d : List ℕ) → xs ≡ low4 e ++ replicate n 0 → d ≡ take (length xs) xs ++ drop (length xs) s
-    → d ≡ (low4 e ++ replicate n 0) ++ drop (4 + n) s
-tail_copied e n xs s d same = copied_as xs (low4 e ++ replicate n 0) s d (4 + n) same (length_code e n)
+pub tail_copied : (e n m : ℕ) (xs s y : List ℕ) → xs ≡ low4 e ++ replicate n 0 → m ≡ 4 + n → y ≡ xs
+    → y ++ drop m s ≡ (low4 e ++ replicate n 0) ++ drop (4 + n) s
+tail_copied e n m xs s y same size f = ap₂ (λ (x z : List ℕ). x ++ z) (f ∙ same) (ap (λ (k : ℕ). drop k s) size)
 
 -- d is a buffer s with its head, and e what is behind the bytes that the code is taken over, with code and zeros
 pub made : (l : Layout) (a : Address) (h : Subheader) (s d e : List ℕ) → Fits l → d ≡ head l a h ++ drop l.user s

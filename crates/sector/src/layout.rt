@@ -6,7 +6,7 @@ use super::Subheader;
 
 // The mode byte; where the user bytes begin; from where on the code covers the bytes before it; where it stands; how many zeros follow it; whether a
 // code of zero is none; whether parity follows, and whether it takes the header as zero.
-#[derive(Drop)]
+#[derive(Clone, Copy)]
 pub(crate) struct Layout {
     pub mode: u8,
     pub user: usize,

@@ -23,7 +23,7 @@ use reply::{Reply, answer, refuse};
 const LENGTH: usize = 2352;
 
 // A sector's place on the disc.
-#[derive(Drop)]
+#[derive(Clone, Copy)]
 pub struct Address {
     pub minute: u16,
     pub second: u16,
@@ -31,7 +31,7 @@ pub struct Address {
 }
 
 // What stands before the user bytes of mode 2, twice: file and channel number, submode, coding information.
-#[derive(Drop)]
+#[derive(Clone, Copy)]
 pub struct Subheader {
     pub file: u8,
     pub channel: u8,
@@ -40,7 +40,7 @@ pub struct Subheader {
 }
 
 // What failed of a sector: the sync bytes, the mode, the EDC, the address that was expected.
-#[derive(Drop)]
+#[derive(Clone, Copy)]
 pub struct Judgement {
     pub sync: bool,
     pub mode: bool,
@@ -49,7 +49,7 @@ pub struct Judgement {
 }
 
 // The answer to a judging: a number as in `Reply`, and the four facts.
-#[derive(Drop)]
+#[derive(Clone, Copy)]
 pub struct Judged {
     pub number: u8,
     pub judgement: Judgement,

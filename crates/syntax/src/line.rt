@@ -11,7 +11,7 @@ use slices::equal;
 
 // The calls of the bench, by their names in docs/BENCH.md: `word` is `Take`, `sector` is `Disc`; `scratch`, `kind` and `subheader` are the disc's too;
 // and the calls of the chip that are lent no memory are `Plain`: `block`, `window` and `address` set, `packet` is a packet byte and `send` a packet word.
-#[derive(Drop)]
+#[derive(Clone, Copy)]
 pub enum Line {
     Malformed,
     Open(u16),

@@ -3,7 +3,7 @@ ghost use Rattle.std.specs.Prelude.{◌≡◌, ◌≤◌};
 ghost use Rattle.syntax.specs.Grammar.{digit, longer, next, numbers};
 
 // The last four runs, `d` the latest; whether the byte before was a digit; whether no value has been above 65,535.
-#[derive(Drop)]
+#[derive(Clone, Copy)]
 pub(crate) struct Numbers {
     pub a: u16,
     pub b: u16,

@@ -9,7 +9,7 @@ pub const ROOM: usize = 160;
 
 // What the line shows: how many lines were read, the reply's number and result, TCC, BUFC, what failed of the last stored sector, and the
 // host interrupt.
-#[derive(Drop)]
+#[derive(Clone, Copy)]
 pub struct Shown {
     pub lines: u64,
     pub number: u8,

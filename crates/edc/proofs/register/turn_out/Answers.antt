@@ -1,0 +1,21 @@
+-- `edc::register::turn_out` meets its contract: the formula is tested with the numbers of places that the code has. Assumes nothing.
+use borrow.Author.Rules.{rules}
+use mathlib.Core.Path.{refl}
+use Rattle.edc.proofs.Folds.{steps}
+use Rattle.edc.proofs.Quotient.{right, out_is}
+use Rattle.edc.proofs.register.turn_out.Goals as goal
+
+pub returns : goal.returns
+unfolding right steps
+returns c = out_is _ _ _ _ _ _ _ _ _ _ c.args.q _ _ _ _ _ _ _ _ _ _
+    c.on-a.ensures
+    c.on-b.ensures
+    c.on-c.ensures
+    c.on.ensures
+    c.up.ensures
+    c.up-2.ensures
+    c.on-2.ensures
+    c.up-3.ensures
+    c.up-4.ensures
+    c.on-3.ensures
+    c.requires refl

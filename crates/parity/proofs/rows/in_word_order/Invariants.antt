@@ -1,0 +1,14 @@
+-- `parity::rows::in_word_order` meets its contract. Assumes nothing.
+use mathlib.Core.Path.{refl}
+use Prim.Native.Nat.{ℕ, ◌+◌, ◌*◌, ◌-◌, ◌/◌, ◌%◌, ◌≤◌}
+use native.Mathlib.Omega.{arith}
+use lib.ListN.{get_or, replicate}
+use Rattle.laws.proofs.Mapped.{Mapped, mapped_none, mapped_more}
+use Rattle.laws.proofs.Listed.{listed_of}
+use Rattle.parity.proofs.rows.in_word_order.Given as goal
+
+abbrev pub invariant-loop-v : goal.invariant-loop-v
+invariant-loop-v l = (l.v ≤ 52) × Mapped (λ (k : ℕ). get_or l.a (50 - 2 * (k / 2) + k % 2) 0) (replicate 52 0) l.v l.t
+
+abbrev pub decreases-loop-v : goal.decreases-loop-v
+decreases-loop-v l = 52 - l.v

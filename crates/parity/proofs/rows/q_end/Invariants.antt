@@ -1,0 +1,13 @@
+-- `parity::rows::q_end` meets its contract. Assumes nothing.
+use mathlib.Core.Path.{sym, ◌∙◌}
+use Prim.Native.Nat.{◌*◌, ◌-◌, ◌%◌, ◌≤◌}
+use native.Mathlib.Omega.{arith}
+use Rattle.parity.proofs.RowLaws.{q_step, q_whole}
+use Rattle.parity.specs.Rows.{view, Sums, q_lane, met}
+use Rattle.parity.proofs.rows.q_end.Given as goal
+
+abbrev pub invariant-loop-r : goal.invariant-loop-r
+invariant-loop-r l = (43 ≤ l.r) × (l.r ≤ 68) × Sums (q_lane (view l.first l.s)) (met l.r) 52 l.a l.b
+
+abbrev pub decreases-loop-r : goal.decreases-loop-r
+decreases-loop-r l = 68 - l.r

@@ -1,0 +1,9 @@
+-- `ring::Place::full` meets its contract. Assumes nothing.
+use mathlib.Core.Path.{ap}
+use Prim.Native.Nat.{ℕ}
+use lib.Dec.{eqb}
+use borrow.Author.Rules.{rules}
+use Rattle.ring.proofs.Place.full.Goals as goal
+
+pub returns : goal.returns
+returns c = ap (λ (b : ℕ). eqb b c.args.self.t) c.after.ensures

@@ -1,0 +1,9 @@
+-- `sector::receive` meets its contract. Assumes nothing.
+use Rattle.sector.proofs.Received.{taken}
+use borrow.Author.Rules.{rules}
+use Rattle.sector.proofs.receive.Goals as goal
+
+pub returns : goal.returns
+returns c =
+    let a = c.args in
+    taken a.expected a.sector.now _ _ c.scramble_into.ensures c.judgement_of.ensures

@@ -7,10 +7,13 @@ use std::{fs, str};
 // An argument is read into so many bytes; a path is shorter.
 const LONGEST: usize = 4096;
 
-const HELP: &str = "usage: bench [FILE]
-Runs the calls in FILE, or on standard input, one to a line, and writes a line of answer for each.
-A line is call=NAME and its keys, as `call=open ring=4`. docs/BENCH.md has every call.
-";
+const USAGE: &str = "usage: bench [FILE]";
+
+const WHAT: &str =
+    "Runs the calls in FILE, or on standard input, one to a line, and writes a line of answer for each.";
+
+const LINES: &str =
+    "A line is call=NAME and its keys, as `call=open ring=4`. docs/BENCH.md has every call.";
 
 // Where the lines come from.
 #[derive(Drop)]
@@ -22,7 +25,7 @@ pub(crate) enum Source<F> {
 
 // The usage, where the arguments are not understood. That it cannot be written is nothing to tell.
 fn refused<R: Eprint, F>(rt: &R) -> Source<F> {
-    let _ = rt.eprint(HELP);
+    let _ = eprintln!(rt; "{USAGE}\n{WHAT}\n{LINES}");
     Source::Nothing
 }
 
@@ -40,7 +43,7 @@ fn opened<R: Files + Eprint>(rt: &R, name: &str) -> Source<R::File> {
 // What the one argument asks for. A file whose name begins with `-` is named as `./-NAME`.
 fn asked<R: Files + Print + Eprint>(rt: &R, word: &str) -> Source<R::File> {
     if word == "--help" {
-        let _ = rt.print(HELP);
+        let _ = println!(rt; "{USAGE}\n{WHAT}\n{LINES}");
         return Source::Nothing;
     }
     if word.starts_with('-') {
@@ -69,7 +72,7 @@ fn first<R: Env + Files + Print + Eprint>(rt: &R) -> Source<R::File> {
 }
 
 // Whether there is such an argument; of one that is there no byte is needed.
-fn has_argument(rt: &impl Env, number: usize) -> bool {
+fn has_argument<R: Env>(rt: &R, number: usize) -> bool {
     !matches!(rt.arg(number, &mut []), Err(FillError::NotPresent))
 }
 

@@ -24,7 +24,7 @@ const REASON: usize = 256;
 
 // Tells what failed and why, as `read: Is a directory`; the number that the library puts behind the system's words is left out. That standard error
 // cannot be written is nothing to tell.
-fn tell(rt: &impl Eprint, what: &str, error: io::Error) {
+fn tell<R: Eprint>(rt: &R, what: &str, error: io::Error) {
     let text = InlineText::<REASON>::of(error);
     let words = text.as_str();
     let reason = match words.split_once(" (os error ") {

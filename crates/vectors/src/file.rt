@@ -171,7 +171,7 @@ fn run<I: Read>(from: &mut I, header: Header, t: Tally) -> Tally {
     }
 }
 
-pub(crate) fn checks(rt: &impl Files, t: Tally) -> Tally {
+pub(crate) fn checks<R: Files>(rt: &R, t: Tally) -> Tally {
     match fs::open(rt, "sectors.bin") {
         Ok(mut file) => {
             let header = read_header(&mut file);

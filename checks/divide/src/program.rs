@@ -66,15 +66,15 @@ impl Program {
         Program { items, crates, scopes, by_name, modules, handed_on, from_the_kit }
     }
 
-    /// The functions that the calls of an item may reach, and the constants that it names. A function that is a value
-    /// the language does not have.
+    /// The functions that the calls of an item may reach, and what it names without a call: constants, and functions that
+    /// it may hand on as values.
     pub fn reached_by(&self, item: &Item) -> BTreeSet<usize> {
         let calls = item.body.calls.iter().flat_map(|call| match self.target(item, call) {
             Target::Items(items) => items,
             Target::Kit | Target::Unknown => Vec::new(),
         });
-        let constants = item.body.names.iter().flat_map(|name| self.seen(item, name, |other| other.is_constant));
-        calls.chain(constants).collect()
+        let named = item.body.names.iter().flat_map(|name| self.seen(item, name, |_| true));
+        calls.chain(named).collect()
     }
 
     pub fn target(&self, caller: &Item, call: &Call) -> Target {
@@ -293,6 +293,15 @@ mod tests {
         let caller = program.items.iter().find(|item| item.name == "f").unwrap();
         let reached: Vec<_> = program.reached_by(caller).into_iter().map(|place| &program.items[place].name).collect();
         assert_eq!(reached, ["HALF"]);
+    }
+
+    #[test]
+    fn functions_are_reached_where_they_are_handed_on() {
+        let files = [("crates/slices/src/lib.rt", "pub fn half(a: u8) -> u8 { a / 2 }")];
+        let program = program(&[files[0], ("crates/sector/src/a.rt", "fn f() { g.map(half) }")]);
+        let caller = program.items.iter().find(|item| item.name == "f").unwrap();
+        let reached: Vec<_> = program.reached_by(caller).into_iter().map(|place| &program.items[place].name).collect();
+        assert_eq!(reached, ["half"]);
     }
 
     #[test]

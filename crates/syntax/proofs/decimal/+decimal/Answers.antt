@@ -22,4 +22,4 @@ pub overflow_add-result-2 : goal.overflow_add-result-2
 overflow_add-result-2 t c = omega (arith, length_more c.args.n (omega arith))
 
 pub returns : goal.returns
-returns t c = ?
+returns t c = last_digit c.args.n (omega arith) c.decimal-end.ensures c.digit-2.ensures

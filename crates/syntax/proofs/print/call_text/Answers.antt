@@ -5,24 +5,18 @@ use Rattle.syntax.proofs.Written.{none, then}
 use Rattle.syntax.proofs.Rows.{Within, within, within_take, length_texts}
 use Rattle.syntax.specs.Print.{rows}
 use borrow.Author.Rules.{rules}
-use Rattle.syntax.proofs.print.call_text.Reads as reads
-use Rattle.syntax.proofs.print.call_text.Lts as lts
-use Rattle.syntax.proofs.decimal.field.Reads as field-reads
 use Rattle.syntax.proofs.print.call_text.Goals as goal
 
-digits : (x : lts.Start (field-reads.Asked, field-reads.Learnt) reads.Pre reads.Post) → Within (take 3 rows) x.args.s
-digits x = within_take 3 rows x.args.s (within x.args.s (omega arith) (omega arith) (omega arith) (omega arith) (omega arith) (omega arith))
-
 pub field-lines-requires : goal.field-lines-requires
-field-lines-requires c = let w = digits c.before.before.before{-PLACE-} in omega arith
+field-lines-requires c = let w = within_take 3 rows c.args.s (within c.args.s (omega arith) (omega arith) (omega arith) (omega arith) (omega arith) (omega arith)) in omega arith
 
 pub field-number-requires : goal.field-number-requires
-field-number-requires c = let w = digits c.before.before.before.before.before.before.before.before.before{-PLACE-} in omega arith
+field-number-requires c = let w = within_take 3 rows c.args.s (within c.args.s (omega arith) (omega arith) (omega arith) (omega arith) (omega arith) (omega arith)) in omega arith
 
 pub field-requires : goal.field-requires
-field-requires c = let w = digits c.before.before.before.before.before.before.before.before.before.before.before.before.before.before{-PLACE-} in omega arith
+field-requires c = let w = within_take 3 rows c.args.s (within c.args.s (omega arith) (omega arith) (omega arith) (omega arith) (omega arith) (omega arith)) in omega arith
 
 pub returns : goal.returns
 returns c =
     let w = then c.field-lines.ensures (then c.field-number.ensures (then c.field.ensures none)) in
-    record { written = w; upper_bound = omega (arith, w.place, length_texts (take 3 rows) c.args.s (digits c.before.before.before.before.before.before.before.before.before.before.before.before.before.before.before.before.before{-PLACE-})) }
+    record { written = w; upper_bound = omega (arith, w.place, length_texts (take 3 rows) c.args.s (within_take 3 rows c.args.s (within c.args.s (omega arith) (omega arith) (omega arith) (omega arith) (omega arith) (omega arith)))) }

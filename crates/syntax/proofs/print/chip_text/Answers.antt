@@ -7,29 +7,22 @@ use Rattle.syntax.proofs.Written.{none, then}
 use Rattle.syntax.proofs.Rows.{Within, within, within_drop, length_texts}
 use Rattle.syntax.specs.Print.{rows, decimal}
 use borrow.Author.Rules.{rules}
-use Rattle.syntax.proofs.print.chip_text.Reads as reads
-use Rattle.syntax.proofs.print.chip_text.Lts as lts
-use Rattle.syntax.proofs.decimal.field.Reads as field-reads
-use Rattle.syntax.proofs.print.flag.Reads as flag-reads
 use Rattle.syntax.proofs.print.chip_text.Goals as goal
 
-digits : (x : lts.Start (field-reads.Asked, field-reads.Learnt, flag-reads.Asked, flag-reads.Learnt) reads.Pre reads.Post) → Within (drop 3 rows) x.args.s
-digits x = within_drop 3 rows x.args.s (within x.args.s (omega arith) (omega arith) (omega arith) (omega arith) (omega arith) (omega arith))
-
 pub field-tcc-requires : goal.field-tcc-requires
-field-tcc-requires c = let w = digits c.before.before.before.before{-PLACE-} in omega arith
+field-tcc-requires c = let w = within_drop 3 rows c.args.s (within c.args.s (omega arith) (omega arith) (omega arith) (omega arith) (omega arith) (omega arith)) in omega arith
 
 pub field-bufc-requires : goal.field-bufc-requires
-field-bufc-requires c = let w = digits c.before.before.before.before.before.before.before.before.before.before{-PLACE-} in omega arith
+field-bufc-requires c = let w = within_drop 3 rows c.args.s (within c.args.s (omega arith) (omega arith) (omega arith) (omega arith) (omega arith) (omega arith)) in omega arith
 
 pub field-why-requires : goal.field-why-requires
-field-why-requires c = let w = digits c.before.before.before.before.before.before.before.before.before.before.before.before.before.before.before.before{-PLACE-} in omega arith
+field-why-requires c = let w = within_drop 3 rows c.args.s (within c.args.s (omega arith) (omega arith) (omega arith) (omega arith) (omega arith) (omega arith)) in omega arith
 
 pub field-requires : goal.field-requires
-field-requires c = let w = digits c.before.before.before.before.before.before.before.before.before.before.before.before.before.before.before.before.before.before.before.before.before.before{-PLACE-} in omega (arith, ap (λ (n : ℕ). length (decimal n)) c.flag.ensures)
+field-requires c = let w = within_drop 3 rows c.args.s (within c.args.s (omega arith) (omega arith) (omega arith) (omega arith) (omega arith) (omega arith)) in omega (arith, ap (λ (n : ℕ). length (decimal n)) c.flag.ensures)
 
 pub returns : goal.returns
 returns c =
     let f = rw c.flag.ensures at c.field.ensures in
     let w = then c.field-tcc.ensures (then c.field-bufc.ensures (then c.field-why.ensures (then f none))) in
-    record { written = w; upper_bound = omega (arith, w.place, length_texts (drop 3 rows) c.args.s (digits start)) }
+    record { written = w; upper_bound = omega (arith, w.place, length_texts (drop 3 rows) c.args.s (within_drop 3 rows c.args.s (within c.args.s (omega arith) (omega arith) (omega arith) (omega arith) (omega arith) (omega arith)))) }

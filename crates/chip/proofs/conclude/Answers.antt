@@ -1,0 +1,6 @@
+-- `chip::conclude` meets its contract. Assumes nothing.
+use borrow.Author.Rules.{rules}
+use Rattle.chip.proofs.conclude.Goals as goal
+
+pub returns : goal.returns
+returns c = cc

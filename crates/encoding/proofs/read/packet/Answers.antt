@@ -1,0 +1,7 @@
+-- `encoding::read::packet` meets its contract. Assumes nothing.
+use Rattle.encoding.proofs.Groups.{packet_of}
+use borrow.Author.Rules.{rules}
+use Rattle.encoding.proofs.read.packet.Goals as goal
+
+pub returns : goal.returns
+returns c = search packet_of

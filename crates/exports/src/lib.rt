@@ -120,8 +120,8 @@ pub extern "C" fn cdrom_bench(
     text: &[u8],
     out: &mut [u8],
 ) -> usize
-    ensures* { λ r. ⌜ record { result = r; memory = memory.new; sector = sector.new; out = out.new }
-        ≡ bench_run memory.old sector.old text.now out.old ⌝ }
+    ensures { record { result = result; memory = memory.new; sector = sector.new; out = out.new }
+        ≡ bench_run memory.old sector.old text.now out.old }
 {
     let fed = script::feed(Bench::start(), memory, sector, text, out);
     fed.size

@@ -1,52 +1,69 @@
 -- Lines of a text, run one after the other: one line found and run is one step of `fed`. Assumes nothing.
-use Rattle.std.proofs.Common.{◌≡◌, ℕ, zero, suc, ◌+◌, ◌-◌, ◌<◌, ◌≤◌, Bool, true, false, not, eqb, ltb, ◌⊎◌, List, [], ◌∷◌, ◌++◌, length, take, drop, sym, refl, ap, ◌∙◌, ap₂, inl, inr, append-nil, le_of_suc-le-suc, not-suc-le-zero, arith, length-drop, take-append-drop, length-take-le, drop-drop, ltb-false, le-ltb}
-use lib.Seq.{append_snoc, take-length}
+use Rattle.std.proofs.Common.{◌≡◌, get_or, add-one, drop_of_length-le, ℕ, zero, suc, ◌+◌, ◌-◌, ◌<◌, ◌≤◌, Bool, true, false, not, eqb, ltb, ◌⊎◌, List, [], ◌∷◌, ◌++◌, length, take, drop, sym, refl, ap, ◌∙◌, ap₂, inl, inr, append-nil, le_of_suc-le-suc, not-suc-le-zero, arith, length-drop, take-append-drop, length-take-le, drop-drop, ltb-false, le-ltb}
+use borrow.Author.Tests.{eq-eqb, ne_eqb}
+use lib.Seq.{append_snoc, take-length, drop-cons}
 use borrow.Rule.Slice.PartMut.{put_mid}
-use Rattle.bytes.specs.Bytes.{index_of, index_after, slice}
 use Rattle.laws.specs.Choice.{if◌then◌else◌}
 use Rattle.laws.proofs.Choice.{if_true, if_false}
 use Rattle.laws.proofs.Ends.{take_put, drop_put}
 use Rattle.syntax.specs.Print.{room, over}
 use Rattle.script.specs.Bench.{Left, ran, reply, carried_left, count, text, told}
-use Rattle.script.specs.Feed.{Progress, with_line, fed, fed_left}
+use Rattle.script.specs.Feed.{Progress, with_line, fed, fed_left, line_end}
 use Rattle.script.specs.declared.Bench.{Bench}
 use Rattle.script.specs.declared.Ran.{Ran}
 use Rattle.script.specs.declared.lines.Fed.{Fed}
 use Rattle.script.proofs.Running.{ran_is}
 
+-- a byte before the rest of a line
+abbrev after_one : Bool → ℕ → ℕ
+after_one t n = if t then 0 else suc n
+
 -- the first line of what is left, where it has an end
 module _ (bytes : ℕ) (d : Progress) where
-  first_cases : (t : Bool) (acc bs : List ℕ) (b : ℕ) → ltb bytes (length d.printed + room) ≡ false → index_after t (index_of 10 bs) < suc (length bs)
-      → ((more : List ℕ) → index_of 10 bs < length bs → fed bytes d more bs ≡ fed bytes (with_line d (more ++ take (index_of 10 bs) bs)) [] (drop (suc (index_of 10 bs)) bs))
+  first_cases : (t : Bool) (acc bs : List ℕ) (b : ℕ) → ltb bytes (length d.printed + room) ≡ false → after_one t (line_end bs) < suc (length bs)
+      → ((more : List ℕ) → line_end bs < length bs → fed bytes d more bs ≡ fed bytes (with_line d (more ++ take (line_end bs) bs)) [] (drop (suc (line_end bs)) bs))
       → (if not t then fed bytes d (acc ++ (b ∷ [])) bs else if ltb bytes (length d.printed + room) then d else fed bytes (with_line d acc) [] bs)
-      ≡ fed bytes (with_line d (acc ++ take (index_after t (index_of 10 bs)) (b ∷ bs))) [] (drop (suc (index_after t (index_of 10 bs))) (b ∷ bs))
-  unfolding index_after
+      ≡ fed bytes (with_line d (acc ++ take (after_one t (line_end bs)) (b ∷ bs))) [] (drop (suc (after_one t (line_end bs))) (b ∷ bs))
   first_cases true acc bs b r h ih = if_false _ _ _ r ∙ ap (λ (l : List ℕ). fed bytes (with_line d l) [] bs) (sym (append-nil acc))
   first_cases false acc bs b r h ih =
       ih (acc ++ (b ∷ [])) (le_of_suc-le-suc h)
-      ∙ ap (λ (l : List ℕ). fed bytes (with_line d l) [] (drop (suc (index_of 10 bs)) bs)) (append_snoc acc b (take (index_of 10 bs) bs))
+      ∙ ap (λ (l : List ℕ). fed bytes (with_line d l) [] (drop (suc (line_end bs)) bs)) (append_snoc acc b (take (line_end bs) bs))
 
-  pub first : (xs acc : List ℕ) → ltb bytes (length d.printed + room) ≡ false → index_of 10 xs < length xs
-      → fed bytes d acc xs ≡ fed bytes (with_line d (acc ++ take (index_of 10 xs) xs)) [] (drop (suc (index_of 10 xs)) xs)
-  unfolding fed index_of
+  pub first : (xs acc : List ℕ) → ltb bytes (length d.printed + room) ≡ false → line_end xs < length xs
+      → fed bytes d acc xs ≡ fed bytes (with_line d (acc ++ take (line_end xs) xs)) [] (drop (suc (line_end xs)) xs)
+  unfolding fed line_end
   first [] acc r h = absurd (not-suc-le-zero h)
-  first (b ∷ bs) acc r h = first_cases (eqb b 10) acc bs b r h (λ (more : List ℕ) (k : index_of 10 bs < length bs). first bs more r k)
+  first (b ∷ bs) acc r h = first_cases (eqb b 10) acc bs b r h (λ (more : List ℕ) (k : line_end bs < length bs). first bs more r k)
 
   -- or no line, or no room for it
-  none_cases : (t : Bool) (acc bs : List ℕ) (b : ℕ) → (ltb bytes (length d.printed + room) ≡ false → suc (length bs) ≤ index_after t (index_of 10 bs))
-      → ((more : List ℕ) → (ltb bytes (length d.printed + room) ≡ false → length bs ≤ index_of 10 bs) → fed bytes d more bs ≡ d)
+  none_cases : (t : Bool) (acc bs : List ℕ) (b : ℕ) → (ltb bytes (length d.printed + room) ≡ false → suc (length bs) ≤ after_one t (line_end bs))
+      → ((more : List ℕ) → (ltb bytes (length d.printed + room) ≡ false → length bs ≤ line_end bs) → fed bytes d more bs ≡ d)
       → (if not t then fed bytes d (acc ++ (b ∷ [])) bs else if ltb bytes (length d.printed + room) then d else fed bytes (with_line d acc) [] bs) ≡ d
-  unfolding index_after
   none_cases true acc bs b h ih = full (ltb bytes (length d.printed + room)) refl where
     full : (t : Bool) → ltb bytes (length d.printed + room) ≡ t → (if t then d else fed bytes (with_line d acc) [] bs) ≡ d
     full true e = refl
     full false e = absurd (not-suc-le-zero (h e))
   none_cases false acc bs b h ih = ih (acc ++ (b ∷ [])) (λ e. le_of_suc-le-suc (h e))
 
-  pub none : (xs acc : List ℕ) → (ltb bytes (length d.printed + room) ≡ false → length xs ≤ index_of 10 xs) → fed bytes d acc xs ≡ d
-  unfolding fed index_of
+  pub none : (xs acc : List ℕ) → (ltb bytes (length d.printed + room) ≡ false → length xs ≤ line_end xs) → fed bytes d acc xs ≡ d
+  unfolding fed line_end
   none [] acc h = refl
-  none (b ∷ bs) acc h = none_cases (eqb b 10) acc bs b h (λ (more : List ℕ) (k : ltb bytes (length d.printed + room) ≡ false → length bs ≤ index_of 10 bs). none bs more k)
+  none (b ∷ bs) acc h = none_cases (eqb b 10) acc bs b h (λ (more : List ℕ) (k : ltb bytes (length d.printed + room) ≡ false → length bs ≤ line_end bs). none bs more k)
+
+-- a search for the line end from a place on: it is there, it is behind, or there is none
+module _ (l : List ℕ) (i : ℕ) where
+  pub line_end_behind : i < length l → (get_or l i 0 ≡ 10 → ⊥) → i + 1 + line_end (drop (i + 1) l) ≡ i + line_end (drop i l)
+  unfolding line_end
+  line_end_behind h n =
+      rw (drop-cons l i 0 h) (rw (ne_eqb (get_or l i 0) 10 n) (rw (add-one i) (omega arith)))
+
+  pub line_end_here : i < length l → get_or l i 0 ≡ 10 → i ≡ i + line_end (drop i l)
+  unfolding line_end
+  line_end_here h e = rw (drop-cons l i 0 h) (rw (eq-eqb (get_or l i 0) 10 e) (omega arith))
+
+  pub line_end_none : length l ≤ i → i ≡ i + line_end (drop i l)
+  unfolding line_end
+  line_end_none h = rw (drop_of_length-le l h) (omega arith)
 
 -- what a feeding has left so far, as progress: the first `size` bytes of the buffer are printed
 abbrev pub now_at : Bench → List ℕ → List ℕ → List ℕ → ℕ → ℕ → Progress
@@ -61,18 +78,11 @@ pub record Stands (bytes : ℕ) (start : Progress) (whole out₀ : List ℕ) (b 
   pub leads : fed bytes (now_at b m s out size taken) [] (drop taken whole) ≡ fed bytes start [] whole
   pub behind : drop size out ≡ drop size out₀
 
--- the part of the text that the search looks at is all that is left
-pub looked_at : (whole : List ℕ) (taken : ℕ) → slice taken (length whole) whole ≡ drop taken whole
-unfolding slice
-looked_at whole taken = ap (drop taken) (take-length whole)
-
 module _ (bytes : ℕ) (start : Progress) (whole out₀ : List ℕ) (b : Bench) (m s out : List ℕ) (size taken end : ℕ)
     (st : Stands bytes start whole out₀ b m s out size taken) (lo : length out ≡ bytes) (hs : size ≤ length out) (hr : room ≤ length out - size)
-    (he : end < length whole) (ht : taken ≤ end) (ei : end ≡ taken + index_of 10 (slice taken (length whole) whole)) where
-  index_is : end - taken ≡ index_of 10 (drop taken whole)
-  index_is =
-      let q : end - taken ≡ index_of 10 (slice taken (length whole) whole) = omega (arith, ei) in
-      q ∙ ap (index_of 10) (looked_at whole taken)
+    (he : end < length whole) (ht : taken ≤ end) (ei : end ≡ taken + line_end (drop taken whole)) where
+  index_is : end - taken ≡ line_end (drop taken whole)
+  index_is = omega (arith, ei)
 
   left_is : fed bytes (now_at b m s out size taken) [] (drop taken whole)
       ≡ fed bytes (with_line (now_at b m s out size taken) (take (end - taken) (drop taken whole))) [] (drop (end + 1) whole)
@@ -80,11 +90,11 @@ module _ (bytes : ℕ) (start : Progress) (whole out₀ : List ℕ) (b : Bench) 
       let lp : length (take size out) ≡ size = length-take-le size out hs in
       let r : length (take size out) + room ≤ bytes = omega (arith, lp, lo, hs, hr) in
       let ld : length (drop taken whole) ≡ length whole - taken = length-drop taken whole in
-      let h : index_of 10 (drop taken whole) < length (drop taken whole) = omega (arith, index_is, ld, he, ht) in
-      let n : taken + suc (index_of 10 (drop taken whole)) ≡ end + 1 = omega (arith, index_is, ht) in
+      let h : line_end (drop taken whole) < length (drop taken whole) = omega (arith, index_is, ld, he, ht) in
+      let n : taken + suc (line_end (drop taken whole)) ≡ end + 1 = omega (arith, index_is, ht) in
       first bytes (now_at b m s out size taken) (drop taken whole) [] (le-ltb _ _ r) h
       ∙ ap₂ (λ (k : ℕ) (rest : List ℕ). fed bytes (with_line (now_at b m s out size taken) (take k (drop taken whole))) [] rest) (sym index_is)
-      (drop-drop (suc (index_of 10 (drop taken whole))) taken whole ∙ ap (λ (k : ℕ). drop k whole) n)
+      (drop-drop (suc (line_end (drop taken whole))) taken whole ∙ ap (λ (k : ℕ). drop k whole) n)
 
   pub turned : (line w : List ℕ) (R : Ran) (m' s' o : List ℕ) → line ≡ take (end - taken) (drop taken whole) → w ≡ drop size out
       → record { result = R; memory = m'; sector = s'; out = o } ≡ ran b m s line w
@@ -118,10 +128,10 @@ module _ (bytes : ℕ) (start : Progress) (whole out₀ : List ℕ) (b : Bench) 
 -- the end: no line is left, or no room
 module _ (bytes : ℕ) (start : Progress) (whole out₀ : List ℕ) (b : Bench) (m s out : List ℕ) (size taken : ℕ) (st : Stands bytes start whole out₀ b m s out size taken)
     (lo : length out ≡ bytes) (hs : size ≤ length out) where
-  pub settled : (bytes < size + room) ⊎ (length whole ≤ taken + index_of 10 (slice taken (length whole) whole)) → now_at b m s out size taken ≡ fed bytes start [] whole
+  pub settled : (bytes < size + room) ⊎ (length whole ≤ taken + line_end (drop taken whole)) → now_at b m s out size taken ≡ fed bytes start [] whole
   settled q = sym (none bytes (now_at b m s out size taken) (drop taken whole) [] (stops q)) ∙ st.leads where
-    stops : (bytes < size + room) ⊎ (length whole ≤ taken + index_of 10 (slice taken (length whole) whole))
-        → ltb bytes (length (take size out) + room) ≡ false → length (drop taken whole) ≤ index_of 10 (drop taken whole)
+    stops : (bytes < size + room) ⊎ (length whole ≤ taken + line_end (drop taken whole))
+        → ltb bytes (length (take size out) + room) ≡ false → length (drop taken whole) ≤ line_end (drop taken whole)
     stops (inl f) e =
         let lp : length (take size out) ≡ size = length-take-le size out hs in
         let r : bytes < length (take size out) + room = omega (arith, lp, f) in
@@ -129,8 +139,7 @@ module _ (bytes : ℕ) (start : Progress) (whole out₀ : List ℕ) (b : Bench) 
         omega (arith, r, z)
     stops (inr g) e =
         let ld : length (drop taken whole) ≡ length whole - taken = length-drop taken whole in
-        let ix : index_of 10 (slice taken (length whole) whole) ≡ index_of 10 (drop taken whole) = ap (index_of 10) (looked_at whole taken) in
-        omega (arith, ld, ix, g)
+        omega (arith, ld, g)
 
 -- what the call leaves is what the progress at the end says
 pub left_as : (b : Bench) (m s out out₀ : List ℕ) (size taken : ℕ) (f : Progress) → now_at b m s out size taken ≡ f → size ≤ length out → drop size out ≡ drop size out₀

@@ -1,5 +1,5 @@
 -- The lines of a text, run one after the other (paper 01, "Bench cases"). Assumes nothing.
-use Rattle.std.specs.Prelude.{ℕ, ◌+◌, not, List, [], ◌∷◌, ◌++◌, length, ◌==◌, nat_lt}
+use Rattle.std.specs.Prelude.{ℕ, suc, ◌+◌, not, List, [], ◌∷◌, ◌++◌, length, ◌==◌, nat_lt}
 use Rattle.laws.specs.Choice.{if◌then◌else◌}
 use Rattle.syntax.specs.Print.{room, over}
 use Rattle.script.specs.Answers.{Answered}
@@ -15,6 +15,11 @@ pub record Progress : Type 0 where
   pub sector : List ℕ
   pub printed : List ℕ
   pub taken : ℕ
+
+-- how many bytes stand before a text's first line end, or are in it where it has none
+unfoldable pub line_end : List ℕ → ℕ
+line_end [] = 0
+line_end (b ∷ bs) = if b == 10 then 0 else suc (line_end bs)
 
 -- before the first line
 abbrev pub begun : Bench → List ℕ → List ℕ → Progress

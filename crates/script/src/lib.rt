@@ -51,8 +51,8 @@ impl Bench {
     // The ring is the start of the memory; the sector is a buffer of 2,352 bytes, in which a sector line seals.
     // Ruled out: one that gives the chip a call before an accepted opening, and one that prints the counters as they were before the call.
     pub fn run(self, memory: &mut [u8], sector: &mut [u8], line: &[u8], out: &mut [u8]) -> Ran
-        ensures* told { λ r. ⌜ record { result = r; memory = memory.new; sector = sector.new; out = out.new }
-            ≡ ran self memory.old sector.old line.now out.old ⌝ }
+        ensures told { record { result = result; memory = memory.new; sector = sector.new; out = out.new }
+            ≡ ran self memory.old sector.old line.now out.old }
         ensures within { result.size ≤ longest }
     {
         if out.len() < ROOM {

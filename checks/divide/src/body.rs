@@ -45,6 +45,8 @@ pub struct Body {
     pub divisions: Vec<Division>,
     pub calls: Vec<Call>,
     pub names: BTreeSet<String>,
+    /// Those of the names that stand behind a `::`.
+    pub ends_of_paths: BTreeSet<String>,
 }
 
 impl Body {
@@ -54,6 +56,7 @@ impl Body {
             body.divisions.extend(division(tokens, place));
             body.calls.extend(call(tokens, place));
             body.names.extend(plain_name(tokens, place));
+            body.ends_of_paths.extend(plain_name(tokens, place).filter(|_| is_behind(tokens, place, "::")));
         }
         // A name that the code gives to a value itself is that value's.
         body.names.retain(|name| !(0..tokens.len()).any(|place| is_bound(tokens, place, name)));

@@ -67,14 +67,15 @@ impl Program {
     }
 
     /// The functions that the calls of an item may reach, and what it names without a call: constants, and functions that
-    /// it may hand on as values.
+    /// it may hand on as values, of which those of a type are named by a path.
     pub fn reached_by(&self, item: &Item) -> BTreeSet<usize> {
         let calls = item.body.calls.iter().flat_map(|call| match self.target(item, call) {
             Target::Items(items) => items,
             Target::Kit | Target::Unknown => Vec::new(),
         });
-        let named = item.body.names.iter().flat_map(|name| self.seen(item, name, |_| true));
-        calls.chain(named).collect()
+        let names = item.body.names.iter().flat_map(|name| self.seen(item, name, |other| other.owner.is_none()));
+        let ends = item.body.ends_of_paths.iter().flat_map(|name| self.seen(item, name, |_| true));
+        calls.chain(names).chain(ends).collect()
     }
 
     pub fn target(&self, caller: &Item, call: &Call) -> Target {
@@ -297,11 +298,12 @@ mod tests {
 
     #[test]
     fn functions_are_reached_where_they_are_handed_on() {
-        let files = [("crates/slices/src/lib.rt", "pub fn half(a: u8) -> u8 { a / 2 }")];
-        let program = program(&[files[0], ("crates/sector/src/a.rt", "fn f() { g.map(half) }")]);
+        let halves = "pub fn half(a: u8) -> u8 { a / 2 } impl A { fn third(self) -> u8 { 3 } fn g(self) {} }";
+        let files = [("crates/slices/src/lib.rt", halves)];
+        let program = program(&[files[0], ("crates/sector/src/a.rt", "fn f() { g.map(half).map(A::third) }")]);
         let caller = program.items.iter().find(|item| item.name == "f").unwrap();
         let reached: Vec<_> = program.reached_by(caller).into_iter().map(|place| &program.items[place].name).collect();
-        assert_eq!(reached, ["half"]);
+        assert_eq!(reached, ["half", "third"]);
     }
 
     #[test]

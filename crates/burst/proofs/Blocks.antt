@@ -1,13 +1,13 @@
 -- Words inside a block: each leaves a sound chip one word on, so that many of them are one run. Assumes nothing.
 use Prim.Native.Nat.{ℕ, zero, suc, ◌+◌, ◌-◌, ◌*◌, ◌<◌, ◌≤◌}
-use mathlib.Core.Path.{◌≡◌, refl, sym, ◌∙◌, ap, ap₂, subst}
-use mathlib.Core.Bool.{Bool, true, false, ◌&&◌, ◌||◌, not}
-use mathlib.Core.List.{List, [], ◌∷◌, ◌++◌}
+use mathlib.Core.Path.{◌≡◌, refl, sym, ◌∙◌, ap, ap₂}
+use mathlib.Core.Bool.{Bool, true, false, ◌&&◌, not}
+use mathlib.Core.List.{List, [], ◌∷◌}
 use native.Mathlib.Omega.{arith}
-use lib.Dec.{eqb, ltb}
+use lib.Dec.{eqb}
 use lib.ListN.{length}
 use borrow.Author.Tests.{not-true, not-false, eqb-true, lt-ltb}
-use Rattle.laws.specs.Bytes.{word_at, words_at}
+use Rattle.laws.specs.Bytes.{words_at}
 use Rattle.laws.proofs.Choice.{if_case, if_false, right_false}
 use Rattle.laws.proofs.Tests.{and3}
 use Rattle.controller.specs.Fields.{◌▹◌, position≔}
@@ -15,17 +15,15 @@ use Rattle.controller.specs.Host.{host_word}
 use Rattle.controller.specs.Step.{done}
 use Rattle.controller.specs.Transfer.{engaged, start, settled, concluded}
 use Rattle.controller.specs.declared.state.Controller.{Controller}
-use Rattle.controller.specs.declared.step.Step.{Step}
-use Rattle.ring.specs.Memory.{base}
 use Rattle.outcomes.proofs.Consistent.{window_end}
 use Rattle.chip.specs.Calls.{next_place, next_word, word_told}
-use Rattle.chip.specs.Chip.{ring_fits, finished}
+use Rattle.chip.specs.Chip.{ring_fits}
 use Rattle.chip.specs.Sound.{sound}
 use Rattle.chip.specs.declared.Chip.{Chip}
-use Rattle.chip.specs.declared.Word.TheVariants.{Handed, Refused}
+use Rattle.chip.specs.declared.Word.TheVariants.{Handed}
 use Rattle.chip.specs.declared.WordTold.{WordTold}
-use Rattle.chip.proofs.Sounds.{RunningFacts, SoundFacts, sound_facts, facts_sound}
-use Rattle.burst.specs.Burst.{Run, run, prepend, by_word, host_words, ahead, advanced}
+use Rattle.chip.proofs.Sounds.{sound_facts, facts_sound}
+use Rattle.burst.specs.Burst.{prepend, by_word, host_words, ahead, advanced}
 
 -- k more words, none of them the block's last
 pub record Inside (c : Chip) (ring : List ℕ) (k : ℕ) : Type 0 where

@@ -1,7 +1,6 @@
 -- The runs of Met: of the row machine, and so of a machine that simulates it. Assumes nothing.
 use Prim.Native.Nat.{ℕ}
-use mathlib.Core.Path.{◌≡◌, refl, ap, ◌∙◌}
-use mathlib.Core.Bool.{true}
+use mathlib.Core.Path.{◌≡◌, refl, ap}
 use mathlib.Core.List.{List, [], ◌∷◌, ◌++◌}
 use native.Mathlib.Omega.{arith}
 use lib.ListN.{length}
@@ -17,11 +16,11 @@ use Rattle.controller.specs.Named.{set_window}
 use Rattle.controller.specs.Read as reading
 use Rattle.controller.specs.Transfer.{byte_count, start, settled, concluded}
 use Rattle.controller.specs.Write as registers
-use Rattle.outcomes.specs.Machine.{Call, word, Answer, replied}
+use Rattle.outcomes.specs.Machine.{word, replied}
 use Rattle.outcomes.specs.Row.{row_answer, row_step, the_row}
 use Rattle.chip.specs.Machine.{the_chip}
 use Rattle.claims.specs.Refinement.{Simulation}
-use Rattle.claims.specs.Runs.{encoded, write, read, command, srst, disc, set_up, restart, transfer, ok, Gives, Met, MetClaim}
+use Rattle.claims.specs.Runs.{encoded, write, read, command, srst, disc, set_up, restart, transfer, ok, Met, MetClaim}
 use Rattle.claims.proofs.Runs.{frame, Ran, calls, ◌then◌, opened, by_row, decoded, filled, own, first, second, by_simulation}
 use Rattle.claims.proofs.Mode1.{judged_other}
 

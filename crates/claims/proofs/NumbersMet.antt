@@ -1,7 +1,6 @@
 -- The run of NumbersMet: of the row machine, and so of the chip. Assumes nothing.
 use Prim.Native.Nat.{ℕ}
-use mathlib.Core.Path.{◌≡◌, refl, ap, ◌∙◌}
-use mathlib.Core.Bool.{true}
+use mathlib.Core.Path.{◌≡◌, refl, ap}
 use mathlib.Core.List.{List, [], ◌∷◌, ◌++◌}
 use native.Mathlib.Omega.{arith}
 use lib.ListN.{length}
@@ -18,7 +17,7 @@ use Rattle.controller.specs.Named.{set_window, packet_byte}
 use Rattle.controller.specs.Read as reading
 use Rattle.controller.specs.Transfer.{settled, concluded}
 use Rattle.controller.specs.Write as registers
-use Rattle.outcomes.specs.Machine.{Call, plain, sector, look, word, Answer, replied, refused}
+use Rattle.outcomes.specs.Machine.{plain, sector, look, word, replied, refused}
 use Rattle.outcomes.specs.Row.{row_answer, row_step, the_row}
 use Rattle.claims.specs.NumbersMet.{NumbersMet, NumbersMetClaim}
 use Rattle.claims.specs.Runs.{encoded, write, read, set_window as window, command, disc, restart, ok, Gives}

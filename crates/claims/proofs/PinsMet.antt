@@ -17,7 +17,7 @@ use Rattle.chip.specs.Sound.{sound}
 use Rattle.chip.specs.Machine.{State, the_chip}
 use Rattle.claims.specs.Pins.{GivenLook, GivenCode, PinsMet}
 use Rattle.claims.specs.Refinement.{Refines, Simulation}
-use Rattle.claims.specs.Runs.{encoded, set_window}
+use Rattle.claims.specs.Runs.{set_window}
 use Rattle.claims.proofs.Reached.{Follows, reached}
 use Rattle.claims.proofs.Runs.{calls, ◌then◌, first}
 

@@ -13,7 +13,6 @@ use Rattle.laws.specs.Choice.{if◌then◌else◌}
 use Rattle.laws.proofs.Choice.{if_case, if_true, both_true}
 use Rattle.calls.specs.declared.Call.{Call as Plain}
 use Rattle.calls.specs.declared.Call.TheVariants.{Write, Read, SetBlock, SetWindow, SetExpected, PacketByte, Reset, Command, PacketWord, Status, Srst}
-use Rattle.sector.specs.Receive.{received}
 use Rattle.controller.specs.Calls.{stepped}
 use Rattle.controller.specs.Host.{host_word}
 use Rattle.controller.specs.Read.{read}
@@ -32,8 +31,8 @@ use Rattle.ring.specs.declared.Place.{Place}
 use Rattle.ring.proofs.Represents.{represents_opened, represents_full}
 use Rattle.outcomes.specs.Book.{facts_of}
 use Rattle.outcomes.specs.Invariant.{moved}
-use Rattle.outcomes.specs.Machine.{Call, plain, sector, look, word, replied, handed, refused, seen, number}
-use Rattle.outcomes.specs.Row.{Row, Valid, plain_step, word_step, sector_number, sector_step, grown, left_by, answered, looked, row_answer, row_step, the_row}
+use Rattle.outcomes.specs.Machine.{Call, plain, sector, look, word, replied, handed, refused, seen}
+use Rattle.outcomes.specs.Row.{Row, Valid, plain_step, word_step, sector_number, sector_step, grown, left_by, answered, row_answer, row_step, the_row}
 use Rattle.outcomes.proofs.Calls.{word_running}
 use Rattle.outcomes.proofs.Rows.{concluded_reply, kept, plain_ended, word_ended, taken, sector_stored, valid_opened}
 use Rattle.chip.specs.Chip as chip

@@ -12,7 +12,6 @@ use Rattle.laws.proofs.Choice.{if_case, if_true, if_false, left_true, right_true
 use Rattle.calls.specs.declared.Call.{Call as Plain}
 use Rattle.calls.specs.declared.Call.TheVariants.{Write, Read, SetBlock, SetWindow, SetExpected, PacketByte, Reset, Command, PacketWord, Status, Srst}
 use Rattle.reply.specs.declared.Reply.{Reply}
-use Rattle.sector.specs.Address.{valid}
 use Rattle.sector.specs.Judge.{good, tarsta_byte}
 use Rattle.sector.specs.Receive.{received}
 use Rattle.sector.specs.declared.Judgement.{Judgement}
@@ -29,13 +28,13 @@ use Rattle.controller.specs.declared.step.RingFacts.{RingFacts}
 use Rattle.controller.specs.declared.step.Step.{Step}
 use Rattle.outcomes.specs.Book.{Book, feed}
 use Rattle.outcomes.specs.Machine.{Call, plain, sector, look, word, Answer, replied, seen, number, Machine}
-use Rattle.outcomes.specs.Row.{Row, Valid, shown, row_facts, word_step, sector_number, sector_step, grown, answered, word_answered, looked, row_answer, row_step, the_row}
+use Rattle.outcomes.specs.Row.{Row, Valid, shown, row_facts, word_step, sector_number, sector_step, grown, answered, word_answered, row_answer, row_step, the_row}
 use Rattle.outcomes.proofs.Outcome.{settled_counts}
 use Rattle.outcomes.proofs.Rows.{concluded_reply, kept, valid_opened}
 use Rattle.chip.specs.Machine.{the_chip}
 use Rattle.claims.specs.Demand3.{masked}
 use Rattle.claims.specs.Refinement.{Simulation}
-use Rattle.claims.specs.Shown.{window_of, result, holding, held_after, Shows, ShowsRun, Shown}
+use Rattle.claims.specs.Shown.{window_of, holding, held_after, Shows, ShowsRun, Shown}
 use Rattle.claims.proofs.Kept.{clears, keeps, word_given}
 use Rattle.claims.proofs.Refines.{chip_simulates}
 use Rattle.claims.proofs.Simulated.{same_number}

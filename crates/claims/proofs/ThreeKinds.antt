@@ -25,7 +25,7 @@ use Rattle.controller.specs.Decoder.{admission, counted}
 use Rattle.controller.specs.Read as reading
 use Rattle.controller.specs.Transfer.{settled, concluded}
 use Rattle.controller.specs.Write as registers
-use Rattle.outcomes.specs.Machine.{sector, replied}
+use Rattle.outcomes.specs.Machine.{replied}
 use Rattle.outcomes.specs.Row.{Row, row_answer, row_step, the_row}
 use Rattle.claims.specs.ThreeKinds.{of_kind, holding, mode_alone, KindsClaim}
 use Rattle.claims.specs.Runs.{read, set_up, ok, Gives, telling_why}

@@ -1,13 +1,13 @@
 -- A record's words from what the functions that make them ensure, and that decoding them gives the record back. Assumes nothing.
-use Prim.Native.Nat.{ℕ, zero, suc, ◌+◌, ◌*◌, ◌/◌, ◌%◌, ◌^◌, ◌<◌}
-use mathlib.Core.Path.{◌≡◌, refl, sym, ◌∙◌, ap}
+use Prim.Native.Nat.{ℕ, zero, suc, ◌+◌, ◌<◌}
+use mathlib.Core.Path.{◌≡◌, sym, ◌∙◌, ap}
 use mathlib.Core.Bool.{Bool, false}
 use mathlib.Core.List.{List, [], ◌∷◌}
 use native.Mathlib.Omega.{arith}
 use lib.Dec.{eqb}
 use lib.ListN.{length, get_or, drop}
 use lib.Seq.{drop-length}
-use Rattle.laws.specs.Bytes.{Bytes, pair}
+use Rattle.laws.specs.Bytes.{pair}
 use Rattle.laws.specs.Numbers.{weight, switches}
 use Rattle.laws.proofs.Ends.{drop_next}
 use Rattle.laws.proofs.Switches.{weight_times, switch_at, weight_tests}
@@ -17,7 +17,7 @@ use Rattle.sector.proofs.Answers.{same_facts}
 use Rattle.controller.specs.Bits.{bit}
 use Rattle.controller.specs.declared.state.Controller.{Controller}
 use Rattle.chip.specs.declared.Chip.{Chip}
-use Rattle.encoding.specs.Words.{word, switch, low, high, judgement_in, packet_bytes, controller_in, place_in, decoded, first_switches, second_switches, packet_pairs, encoded, Ranged, EncodingClaim}
+use Rattle.encoding.specs.Words.{low, high, judgement_in, packet_bytes, controller_in, decoded, first_switches, second_switches, packet_pairs, encoded, Ranged, EncodingClaim}
 
 -- eight switches by their weights
 pub flags_of : (a b c d e f g h : Bool) {s t u v w x y z : ℕ} → s ≡ weight a 1 → t ≡ weight b 2 → u ≡ weight c 4 → v ≡ weight d 8 → w ≡ weight e 16

@@ -1,13 +1,13 @@
 -- A record whose position word is written anew. Assumes nothing.
-use Prim.Native.Nat.{ℕ, ◌+◌, ◌<◌}
-use mathlib.Core.Path.{◌≡◌, refl, ◌∙◌, ap}
+use Prim.Native.Nat.{ℕ, ◌<◌}
+use mathlib.Core.Path.{◌≡◌, refl}
 use mathlib.Core.Bool.{false}
 use mathlib.Core.List.{List}
 use lib.Dec.{eqb}
 use lib.ListN.{length, get_or, set}
 use lib.Seq.{get_or-set_same, get_or-set_other}
 use borrow.Author.Tests.{eqb-false}
-use Rattle.encoding.specs.Words.{word, controller_in, place_in, decoded}
+use Rattle.encoding.specs.Words.{decoded}
 use Rattle.chip.specs.Chip.{at_position}
 
 module _ (ws : List ℕ) (v : ℕ) (long : 14 < length ws) where

@@ -1,7 +1,7 @@
 -- A chip's record as 28 words of sixteen bits: words 0 to 15 are numbers, 16 to 19 bytes, the kept facts as the number why among them, 20 and 21
 -- switches, 22 to 27 the packet's bytes. Any 28 words are some record; what soundness asks of it is the chip's to test (paper 01, "Reply
 -- numbers"). Assumes nothing.
-use Rattle.std.specs.Prelude.{ℕ, ◌+◌, ◌*◌, ◌/◌, ◌%◌, ◌<◌, ◌≡◌, Bool, List, [], ◌∷◌, length, get_or}
+use Rattle.std.specs.Prelude.{ℕ, ◌/◌, ◌%◌, ◌<◌, ◌≡◌, Bool, List, [], ◌∷◌, length, get_or}
 use Rattle.laws.specs.Bytes.{Bytes, pair}
 use Rattle.laws.specs.Numbers.{switches}
 use Rattle.sector.specs.Judge.{why}

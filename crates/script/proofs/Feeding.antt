@@ -1,17 +1,16 @@
 -- Lines of a text, run one after the other: one line found and run is one step of `fed`. Assumes nothing.
-use Rattle.std.proofs.Common.{◌≡◌, get_or, add-one, drop_of_length-le, ℕ, zero, suc, ◌+◌, ◌-◌, ◌<◌, ◌≤◌, Bool, true, false, not, eqb, ltb, ◌⊎◌, List, [], ◌∷◌, ◌++◌, length, take, drop, sym, refl, ap, ◌∙◌, ap₂, inl, inr, append-nil, le_of_suc-le-suc, not-suc-le-zero, arith, length-drop, take-append-drop, length-take-le, drop-drop, ltb-false, le-ltb}
+use Rattle.std.proofs.Common.{◌≡◌, get_or, add-one, drop_of_length-le, ℕ, suc, ◌+◌, ◌-◌, ◌<◌, ◌≤◌, Bool, true, false, not, eqb, ltb, ◌⊎◌, List, [], ◌∷◌, ◌++◌, length, take, drop, sym, refl, ap, ◌∙◌, ap₂, inl, inr, append-nil, le_of_suc-le-suc, not-suc-le-zero, arith, length-drop, take-append-drop, length-take-le, drop-drop, ltb-false, le-ltb}
 use borrow.Author.Tests.{eq-eqb, ne_eqb}
-use lib.Seq.{append_snoc, take-length, drop-cons}
+use lib.Seq.{append_snoc, drop-cons}
 use borrow.Rule.Slice.PartMut.{put_mid}
 use Rattle.laws.specs.Choice.{if◌then◌else◌}
-use Rattle.laws.proofs.Choice.{if_true, if_false}
+use Rattle.laws.proofs.Choice.{if_false}
 use Rattle.laws.proofs.Ends.{take_put, drop_put}
 use Rattle.syntax.specs.Print.{room, over}
 use Rattle.script.specs.Bench.{Left, ran, reply, carried_left, count, text, told}
 use Rattle.script.specs.Feed.{Progress, with_line, fed, fed_left, line_end}
 use Rattle.script.specs.declared.Bench.{Bench}
 use Rattle.script.specs.declared.Ran.{Ran}
-use Rattle.script.specs.declared.lines.Fed.{Fed}
 use Rattle.script.proofs.Running.{ran_is}
 
 -- a byte before the rest of a line

@@ -6,12 +6,11 @@ use Rattle.syntax.specs.Print.{printed, room, over}
 use Rattle.syntax.specs.declared.line.Line.{Line}
 use Rattle.syntax.specs.declared.print.Shown.{Shown}
 use Rattle.script.specs.Answers.{Answered, answered, shown}
-use Rattle.script.specs.Bench.{Left, ran, reply, carried_left, count, told, after}
+use Rattle.script.specs.Bench.{ran, reply, carried_left, count, told, after}
 use Rattle.script.specs.Disc.{carried_after}
 use Rattle.script.specs.declared.call.Answer.{Answer}
 use Rattle.script.specs.declared.disc.Carried.{Carried}
 use Rattle.script.specs.declared.Bench.{Bench}
-use Rattle.script.specs.declared.Ran.{Ran}
 
 -- where there is room
 pub ran_is : (b : Bench) (m s line out : List ℕ) → room ≤ length out → ran b m s line out ≡ told (reply b m s line) (carried_left b line (reply b m s line).answer.number) (count b) out

@@ -82,7 +82,7 @@ disc c d ring s a byte =
 
 -- a line that says something of the next sectors: 3 where its numbers are out of range
 unfoldable pub said : Chip → Bool → Answer
-said c in-range = record { opened = true; chip = c; number = if in-range then 0 else 3; out = 0 }
+said c in_range = record { opened = true; chip = c; number = if in_range then 0 else 3; out = 0 }
 
 -- the calls of an open chip: only an accepted sector changes the ring and the buffer
 unfoldable pub called : Chip → Carried → List ℕ → List ℕ → Line → Answered

@@ -61,8 +61,8 @@ pub record Runs (c : Chip) (d : Carried) (ring s : List ℕ) (line : Line) (call
 
 -- a line that says something of the next sectors is none of the machine's: it is answered 0 or 3, and leaves chip, ring and buffer as they are
 abbrev pub Says : Chip → Carried → List ℕ → List ℕ → Line → Bool → Type 0
-Says c d ring s line in-range =
-    called c d ring s line ≡ unchanged ring s (record { opened = true; chip = c; number = if in-range then 0 else 3; out = 0 })
+Says c d ring s line in_range =
+    called c d ring s line ≡ unchanged ring s (record { opened = true; chip = c; number = if in_range then 0 else 3; out = 0 })
 
 pub record MachineClaim : Type 0 where
   pub plain_runs : (c : Chip) (d : Carried) (ring s : List ℕ) (call : Lent-nothing) → Runs c d ring s (Plain call) (plain call)

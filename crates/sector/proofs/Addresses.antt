@@ -23,8 +23,8 @@ pub record InRange (a : Address) : Type 0 where
   pub second : a.second ≤ 59
   pub frame : a.frame ≤ 74
 
-pub in-range : (a : Address) → valid a ≡ true → InRange a
-in-range a h =
+pub in_range : (a : Address) → valid a ≡ true → InRange a
+in_range a h =
     let m = leb a.minute 99 in
     let s = leb a.second 59 in
     let f = leb a.frame 74 in
@@ -114,7 +114,7 @@ from_bytes l = record { minute = from_bcd (get_or l 0 0); second = from_bcd (get
 pub bytes_back : (a : Address) → valid a ≡ true → from_bytes (address_bytes a) ≡ a
 unfolding from_bytes
 bytes_back a v =
-    let r = in-range a v in
+    let r = in_range a v in
     same_address (from_bytes (address_bytes a)) a (bcd_back a.minute (omega arith)) (bcd_back a.second (omega arith)) (bcd_back a.frame (omega arith))
 
 pub bytes_tell : (a b : Address) → valid a ≡ true → valid b ≡ true → address_bytes a ≡ address_bytes b → a ≡ b
@@ -122,7 +122,7 @@ bytes_tell a b va vb e = sym (bytes_back a va) ∙ ap from_bytes e ∙ bytes_bac
 
 pub bytes_address : (a : Address) → valid a ≡ true → Bytes (address_bytes a)
 bytes_address a v =
-    let r = in-range a v in
+    let r = in_range a v in
     bytes_cons (bcd a.minute) (bcd a.second ∷ bcd a.frame ∷ []) (bcd_byte a.minute (omega arith))
     (bytes_cons (bcd a.second) (bcd a.frame ∷ []) (bcd_byte a.second (omega arith))
     (bytes_cons (bcd a.frame) [] (bcd_byte a.frame (omega arith)) bytes_nil))
@@ -153,7 +153,7 @@ module _ (P : Address → Type 0) (a : Address) where
 -- the address that follows a valid one is valid
 pub next_valid : (a : Address) → valid a ≡ true → valid (next a) ≡ true
 next_valid a v =
-    let r = in-range a v in
+    let r = in_range a v in
     split_next (λ (b : Address). valid b ≡ true) a
     (λ (h : a.frame < 74). of_range (record { minute = a.minute; second = a.second; frame = a.frame + 1 }) (record { minute = r.minute; second = r.second; frame = omega arith }))
     (λ (h : a.second < 59). of_range (record { minute = a.minute; second = a.second + 1; frame = 0 }) (record { minute = r.minute; second = omega arith; frame = omega arith }))

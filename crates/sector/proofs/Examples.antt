@@ -210,7 +210,7 @@ module _ (l : Layout) (f : Fits l) (late : 24 ≤ l.code) (h : Head) (j : Judgem
     address = judged_at j.address;
     whole = made_long;
     bytes = made_bytes m x d;
-    in-range = at_valid j.address;
+    in_range = at_valid j.address;
     kind = kind;
     judged =
         sym (judge_done made (judged_at j.address) made_long (at_valid j.address))

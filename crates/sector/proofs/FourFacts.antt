@@ -7,9 +7,7 @@ use lib.Dec.{eqb}
 use borrow.Author.Tests.{ne_eqb}
 use Rattle.laws.specs.Numbers.{weight}
 use Rattle.laws.proofs.Switches.{weight_one, weight_times, weight_tests}
-use Rattle.edc.specs.Edc.{edc}
 use Rattle.sector.specs.declared.Judgement.{Judgement}
-use Rattle.sector.specs.Sector.{sync}
 use Rattle.sector.specs.Judge.{sync_holds, mode_holds, edc_holds, address_holds, judgement, staerr, tarsta_byte, why}
 use Rattle.sector.specs.Claims.{FactsClaim}
 use Rattle.sector.proofs.Answers.{same_facts}

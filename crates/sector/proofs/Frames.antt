@@ -13,7 +13,7 @@ use Rattle.laws.specs.Bytes.{Bytes}
 use Rattle.laws.specs.Choice.{if◌then◌else◌}
 use Rattle.laws.proofs.Bytes.{four_bytes, bytes_nil, bytes_cons, bytes_append, bytes_take, bytes_drop, bytes_of, bytes_replicate}
 use Rattle.laws.proofs.Choice.{if_case, if_true, if_false}
-use Rattle.laws.proofs.Parts.{copied_as, put_rest, mid_rest}
+use Rattle.laws.proofs.Parts.{put_rest, mid_rest}
 use Rattle.laws.proofs.Same.{same_of}
 use Rattle.laws.proofs.Tests.{true_when}
 use Rattle.laws.proofs.Window.{drop_take}

@@ -9,10 +9,10 @@ use lib.Bits.{bit_xor}
 use lib.Seq.{take_at, take_all, drop_at, drop-drop, get_or-drop}
 use Rattle.laws.specs.Bytes.{Bytes}
 use Rattle.laws.specs.Same.{same}
-use Rattle.laws.proofs.Bytes.{bytes_append, bytes_of, bytes_replicate, bytes_take, bytes_drop}
+use Rattle.laws.proofs.Bytes.{bytes_append, bytes_of, bytes_replicate}
 use Rattle.laws.proofs.Changed.{drop_changed}
 use Rattle.laws.proofs.Fill.{drop_replicate}
-use Rattle.laws.proofs.Same.{same_of, same_is, not_same}
+use Rattle.laws.proofs.Same.{same_of, same_is}
 use Rattle.laws.proofs.Tests.{or_left, or_right}
 use Rattle.edc.specs.Edc.{edc}
 use Rattle.edc.proofs.Laws.{edc_lt, edc_append}
@@ -27,7 +27,7 @@ use Rattle.sector.specs.Judge.{sync_holds, mode_holds, code_right, unwritten, ed
 use Rattle.sector.specs.Calls.{judge_answer}
 use Rattle.sector.specs.Claims.{verdict, GoodAsBoth, TwoKindsClaim}
 use Rattle.sector.proofs.Answers.{judge_done, judged_facts}
-use Rattle.sector.proofs.Frames.{bytes_low4, low4_tells, length_encoded, bytes_encoded, length_body, code_encoded, front_encoded}
+use Rattle.sector.proofs.Frames.{bytes_low4, length_encoded, bytes_encoded, code_encoded, front_encoded}
 use Rattle.sector.proofs.Layouts.{fits}
 use Rattle.sector.proofs.Sealed.{kind_encoded, judged_own}
 

@@ -208,7 +208,7 @@ pub record Example (k : ℕ) (j : Judgement) : Type 0 where
   pub address : Address
   pub whole : length sector ≡ 2352
   pub bytes : Bytes sector
-  pub in-range : valid address ≡ true
+  pub in_range : valid address ≡ true
   pub kind : kind_read sector ≡ k
   pub judged : judge_answer sector address ≡ verdict j
 
@@ -227,7 +227,7 @@ pub record MetClaim : Type 0 where
   pub other : Address
   pub whole : length buffer ≡ 2352
   pub bytes : Bytes buffer
-  pub in-range : valid address ≡ true
+  pub in_range : valid address ≡ true
   pub in_range_too : valid other ≡ true
   pub apart : other ≡ address → ⊥
   pub of_form_1 : (h : Subheader) × (agrees 2 h ≡ true) × Bytes (subheader_bytes h)

@@ -28,7 +28,7 @@ use Rattle.ring.proofs.Represents.{represents_word}
 use Rattle.chip.specs.Chip.{opened}
 use Rattle.chip.specs.Calls.{called}
 use Rattle.chip.specs.Sound.{sound}
-use Rattle.chip.specs.Machine.{State, over, chip_answer, chip_step}
+use Rattle.chip.specs.Machine.{over, chip_answer, chip_step}
 use Rattle.claims.specs.Runs.{encoded, write, srst, disc, set_up, transfer, ok}
 use Rattle.tally.specs.Tally.{entries, tally, AddsUp}
 use Rattle.tally.specs.Wrong.{Untallied, skip_without_acmen_step, skipping_without_acmen, RefutedClaim}

@@ -1,6 +1,5 @@
 -- `burst::ahead` meets its contract. Assumes nothing.
 use Rattle.burst.proofs.Blocks.{ahead_none, ahead_some}
-use borrow.Author.Rules.{rules}
 use Rattle.burst.proofs.ahead.Goals as goal
 
 pub returns-then-not-ready-transfer : goal.returns-then-not-ready-transfer

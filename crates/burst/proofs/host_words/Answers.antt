@@ -3,12 +3,11 @@ use mathlib.Core.Path.{◌≡◌, sym, ◌∙◌, ap, subst}
 use mathlib.Core.List.{List}
 use Prim.Native.Nat.{ℕ, ◌+◌, ◌-◌, ◌<◌, ◌≤◌}
 use native.Mathlib.Omega.{arith}
-use lib.ListN.{length, length-drop}
+use lib.ListN.{length}
 use borrow.Rule.Slice.PartMut.{put_mid}
 use Rattle.laws.proofs.Ends.{put_length}
 use Rattle.laws.proofs.Parts.{put_rest, mid_rest}
 use Rattle.burst.proofs.Turns.{Standing, begins, over_told, over_written, full, ended, kept, more}
-use borrow.Author.Rules.{rules}
 use Rattle.burst.proofs.host_words.Goals as goal
 
 pub loop-handed-init : goal.loop-handed-init
@@ -22,9 +21,12 @@ returns-then-turned-eq0 c =
     let e = t.new.out in
     let z : t.result.handed ≡ 0 = omega arith in
     let lent = mid_rest l.handed l.out in
-    let end = ended a.ring.now a.out.now a.chip l.out l.at l.handed l.invariant _ e lent t.result t.ensures.run t.ensures.rest.1 z in record { told = over_told a.ring.now a.out.now a.chip l.out l.at l.handed l.invariant t.result.number end; words = put_rest l.handed l.out e
+    let end = ended a.ring.now a.out.now a.chip l.out l.at l.handed l.invariant _ e lent t.result t.ensures.run t.ensures.rest.1 z in record {
+      told = over_told a.ring.now a.out.now a.chip l.out l.at l.handed l.invariant t.result.number end;
+      words = put_rest l.handed l.out e
           ∙ kept a.ring.now a.out.now a.chip l.out l.at l.handed l.invariant _ e lent t.result t.ensures.run t.ensures.rest.1 z
-          ∙ over_written a.ring.now a.out.now a.chip l.out l.at l.handed l.invariant t.result.number end }
+          ∙ over_written a.ring.now a.out.now a.chip l.out l.at l.handed l.invariant t.result.number end;
+    }
 
 pub loop-handed-smaller : goal.loop-handed-smaller
 loop-handed-smaller c =

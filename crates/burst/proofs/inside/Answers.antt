@@ -2,7 +2,6 @@
 use native.Mathlib.Omega.{arith}
 use lib.ListN.{length}
 use Rattle.burst.proofs.Blocks.{inside_of, inside_end, inside_small}
-use borrow.Author.Rules.{rules}
 use Rattle.burst.proofs.inside.Goals as goal
 
 pub overflow_cast-count : goal.overflow_cast-count

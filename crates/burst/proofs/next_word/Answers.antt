@@ -1,7 +1,6 @@
 -- `burst::next_word` meets its contract. Assumes nothing.
 use native.Mathlib.Omega.{arith}
 use Rattle.burst.proofs.Blocks.{inside_of, inside_end}
-use borrow.Author.Rules.{rules}
 use Rattle.burst.proofs.next_word.Goals as goal
 
 pub word_of-requires : goal.word_of-requires

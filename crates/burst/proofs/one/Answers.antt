@@ -2,7 +2,6 @@
 use mathlib.Core.Path.{refl}
 use native.Mathlib.Omega.{arith}
 use Rattle.burst.proofs.Turns.{one_refused, one_handed, behind_one}
-use borrow.Author.Rules.{rules}
 use Rattle.burst.proofs.one.Goals as goal
 
 pub returns-in_default : goal.returns-in_default

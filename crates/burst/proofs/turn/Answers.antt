@@ -4,7 +4,6 @@ use native.Mathlib.Omega.{arith}
 use lib.ListN.{length}
 use Rattle.burst.specs.Burst.{ahead}
 use Rattle.burst.proofs.Turns.{turn_run, turn_rest}
-use borrow.Author.Rules.{rules}
 use Rattle.burst.proofs.turn.Goals as goal
 
 pub returns : goal.returns

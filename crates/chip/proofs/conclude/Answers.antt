@@ -1,5 +1,4 @@
 -- `chip::conclude` meets its contract. Assumes nothing.
-use borrow.Author.Rules.{rules}
 use Rattle.chip.proofs.conclude.Goals as goal
 
 pub returns : goal.returns

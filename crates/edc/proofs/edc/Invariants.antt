@@ -1,13 +1,9 @@
 -- `edc::edc` meets its contract. The invariant: the ring's register, with what is left of the bytes, gives the code. Assumes nothing.
-use mathlib.Core.Path.{◌≡◌, refl, sym, ap, ◌∙◌}
-use Prim.Native.Nat.{ℕ, ◌-◌, ◌%◌, ◌≤◌}
-use native.Mathlib.Nat.{le_of_eq}
-use native.Mathlib.Omega.{arith}
+use mathlib.Core.Path.{◌≡◌}
+use Prim.Native.Nat.{◌-◌, ◌%◌, ◌≤◌}
 use lib.ListN.{length, drop}
 use Rattle.edc.specs.Edc.{edc}
 use Rattle.edc.specs.Fold.{held}
-use Rattle.edc.proofs.Laws.{edc_end}
-use Rattle.edc.proofs.Ring.{held_empty}
 use Rattle.edc.proofs.edc.Given as goal
 
 abbrev pub invariant-loop-at : goal.invariant-loop-at

@@ -5,7 +5,6 @@ use Rattle.script.specs.declared.Bench.{Bench}
 use Rattle.script.specs.Bench.{Left}
 use Rattle.script.specs.Feed.{fed_text}
 use Rattle.exports.specs.Words.{with_size}
-use borrow.Author.Rules.{rules}
 use Rattle.exports.proofs.cdrom_bench.Goals as goal
 
 pub returns : goal.returns

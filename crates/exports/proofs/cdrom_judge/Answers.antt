@@ -1,6 +1,5 @@
 -- `exports::cdrom_judge` meets its contract. Assumes nothing.
 use mathlib.Core.Path.{ap, ◌∙◌}
-use borrow.Author.Rules.{rules}
 use Rattle.exports.specs.Words.{packed, judged_word, judge_word}
 use Rattle.exports.proofs.cdrom_judge.Goals as goal
 

@@ -1,8 +1,6 @@
 -- `exports::cdrom_next_address` meets its contract. Assumes nothing.
 use mathlib.Core.Path.{◌≡◌, sym, ap, ◌∙◌}
 use mathlib.Core.Bool.{true, false}
-use borrow.Author.Tests.{not-true, not-false}
-use borrow.Author.Rules.{rules}
 use Rattle.sector.proofs.Addresses.{next_valid}
 use Rattle.sector.specs.Address.{valid, next}
 use Rattle.sector.specs.declared.Address.{Address}

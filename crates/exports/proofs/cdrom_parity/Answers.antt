@@ -1,6 +1,5 @@
 -- `exports::cdrom_parity` meets its contract. Assumes nothing.
 use mathlib.Core.Path.{ap, ◌∙◌}
-use borrow.Author.Rules.{rules}
 use Rattle.exports.specs.Words.{reply_word}
 use Rattle.exports.proofs.cdrom_parity.Goals as goal
 

@@ -3,7 +3,6 @@ use mathlib.Core.Path.{ap, ◌∙◌}
 use Rattle.sector.specs.Calls.{seal_sector}
 use Rattle.sector.specs.declared.Address.{Address}
 use Rattle.exports.specs.Words.{reply_word, subheader_in, seal_word}
-use borrow.Author.Rules.{rules}
 use Rattle.exports.proofs.cdrom_seal_xa.Goals as goal
 
 pub returns : goal.returns

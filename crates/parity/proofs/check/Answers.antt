@@ -1,7 +1,6 @@
 -- `parity::check` meets its contract. Assumes nothing.
 use mathlib.Core.Bool.{Bool, ◌&&◌}
 use mathlib.Core.Path.{ap₂}
-use borrow.Author.Rules.{rules}
 use Rattle.parity.specs.Parity.{parity_holds}
 use Rattle.parity.proofs.check.Goals as goal
 

@@ -2,7 +2,6 @@
 use mathlib.Core.Path.{sym, ◌∙◌}
 use native.Mathlib.Omega.{arith}
 use lib.ListN.{take, drop}
-use borrow.Author.Rules.{rules}
 use Rattle.laws.proofs.Window.{length_window}
 use Rattle.parity.proofs.Coded.{all_fit_is, p_first, p_second}
 use Rattle.parity.specs.Layout.{p}

@@ -2,7 +2,6 @@
 use mathlib.Core.Path.{ap, ◌∙◌}
 use Prim.Native.Nat.{ℕ}
 use lib.ListN.{length}
-use borrow.Author.Rules.{rules}
 use Rattle.parity.proofs.Coded.{written, length_written}
 use Rattle.parity.proofs.Coded.{written}
 use Rattle.parity.specs.Rows.{multiples}

@@ -4,7 +4,6 @@ use mathlib.Core.Path.{sym, ap, ap₂, ◌∙◌}
 use Prim.Native.Nat.{ℕ}
 use native.Mathlib.Nat.{le_of_eq}
 use lib.ListN.{take, drop, drop_of_length-le}
-use borrow.Author.Rules.{rules}
 use Rattle.laws.specs.Bytes.{Bytes}
 use Rattle.laws.proofs.Parts.{put_part}
 use Rattle.parity.proofs.Coded.{firsts_are, seconds_are, q_front}

@@ -1,6 +1,5 @@
 -- `ring::after` meets its contract. The loop's invariant: a turn less is the same place. Assumes nothing.
-use mathlib.Core.Path.{◌≡◌, refl, sym, ◌∙◌}
-use Prim.Native.Nat.{◌+◌, ◌%◌}
+use mathlib.Core.Path.{refl, sym, ◌∙◌}
 use native.Mathlib.Omega.{arith}
 use native.Mathlib.Nat.{mod-eq_of_lt, mod-eq-sub-mod}
 use Rattle.ring.proofs.after.Goals as goal

@@ -1,8 +1,6 @@
 -- `ring::after` meets its contract. The loop's invariant: a turn less is the same place. Assumes nothing.
-use mathlib.Core.Path.{◌≡◌, refl, sym, ◌∙◌}
+use mathlib.Core.Path.{◌≡◌}
 use Prim.Native.Nat.{◌+◌, ◌%◌}
-use native.Mathlib.Omega.{arith}
-use native.Mathlib.Nat.{mod-eq_of_lt, mod-eq-sub-mod}
 use Rattle.ring.proofs.after.Given as goal
 
 abbrev pub invariant-loop-place : goal.invariant-loop-place

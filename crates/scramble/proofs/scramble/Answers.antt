@@ -2,7 +2,6 @@
 use mathlib.Core.Path.{ap, ap₂, ◌∙◌}
 use mathlib.Core.List.{List, ◌++◌}
 use Prim.Native.Nat.{ℕ}
-use borrow.Author.Rules.{rules}
 use lib.ListN.{take}
 use Rattle.scramble.specs.Scramble.{xored, scrambled}
 use Rattle.scramble.proofs.Scrambled.{put_from_12, mid_from_12}

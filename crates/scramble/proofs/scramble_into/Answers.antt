@@ -1,12 +1,11 @@
 -- `scramble::scramble_into` meets its contract. Assumes nothing.
-use mathlib.Core.Path.{◌≡◌, sym, ap, ap₂, ◌∙◌}
+use mathlib.Core.Path.{◌≡◌, ap, ap₂, ◌∙◌}
 use mathlib.Core.List.{List, ◌++◌}
 use Prim.Native.Nat.{ℕ}
 use native.Mathlib.Omega.{arith}
-use lib.ListN.{length, take, drop, length-drop, length-append}
-use lib.Seq.{length-take-le, take_at, take-length}
+use lib.ListN.{length, drop, length-drop, length-append}
+use lib.Seq.{length-take-le, take_at}
 use Rattle.scramble.specs.Scramble.{xored, scrambled}
-use borrow.Author.Rules.{rules}
 use Rattle.scramble.proofs.Scrambled.{put_from_12, mid_from_12}
 use Rattle.scramble.proofs.scramble_into.Goals as goal
 

@@ -1,9 +1,9 @@
 -- `scramble::xor` meets its contract. The loop's invariant: the first i bytes of `s` are the xored ones, and the others are as they were.
 -- Assumes nothing.
-use mathlib.Core.Path.{◌≡◌, refl, ap, ◌∙◌}
-use Prim.Native.Nat.{ℕ, ◌≤◌, ◌-◌}
+use mathlib.Core.Path.{refl, ap, ◌∙◌}
+use Prim.Native.Nat.{ℕ}
 use native.Mathlib.Omega.{arith}
-use lib.ListN.{length, take, drop, get_or, length-set}
+use lib.ListN.{get_or, length-set}
 use lib.Bits.{bit_xor}
 use Rattle.laws.proofs.Grow.{grow, grown, left, ahead}
 use Rattle.scramble.specs.Scramble.{xored}

@@ -1,13 +1,9 @@
 -- `scramble::xor` meets its contract. The loop's invariant: the first i bytes of `s` are the xored ones, and the others are as they were.
 -- Assumes nothing.
-use mathlib.Core.Path.{◌≡◌, refl, ap, ◌∙◌}
-use Prim.Native.Nat.{ℕ, ◌≤◌, ◌-◌}
-use native.Mathlib.Omega.{arith}
-use lib.ListN.{length, take, drop, get_or, length-set}
-use lib.Bits.{bit_xor}
-use Rattle.laws.proofs.Grow.{grow, grown, left, ahead}
+use mathlib.Core.Path.{◌≡◌}
+use Prim.Native.Nat.{◌≤◌, ◌-◌}
+use lib.ListN.{length, take, drop}
 use Rattle.scramble.specs.Scramble.{xored}
-use Rattle.scramble.proofs.Scrambled.{length_xored, getD_xored}
 use Rattle.scramble.proofs.xor.Given as goal
 
 abbrev pub invariant-loop-i : goal.invariant-loop-i

@@ -1,9 +1,8 @@
 -- `scramble::xor_into` meets its contract. The loop's invariant: the first i bytes of `dst` are the xored ones of `src`.
 -- Assumes nothing.
-use mathlib.Core.Path.{◌≡◌, refl, ◌∙◌}
-use Prim.Native.Nat.{◌≤◌, ◌-◌}
+use mathlib.Core.Path.{refl, ◌∙◌}
 use native.Mathlib.Omega.{arith}
-use lib.ListN.{length, take, length-set}
+use lib.ListN.{length-set}
 use Rattle.laws.proofs.Grow.{grow, grown}
 use Rattle.scramble.specs.Scramble.{xored}
 use Rattle.scramble.proofs.Scrambled.{length_xored, getD_xored}

@@ -1,12 +1,9 @@
 -- `scramble::xor_into` meets its contract. The loop's invariant: the first i bytes of `dst` are the xored ones of `src`.
 -- Assumes nothing.
-use mathlib.Core.Path.{◌≡◌, refl, ◌∙◌}
+use mathlib.Core.Path.{◌≡◌}
 use Prim.Native.Nat.{◌≤◌, ◌-◌}
-use native.Mathlib.Omega.{arith}
-use lib.ListN.{length, take, length-set}
-use Rattle.laws.proofs.Grow.{grow, grown}
+use lib.ListN.{length, take}
 use Rattle.scramble.specs.Scramble.{xored}
-use Rattle.scramble.proofs.Scrambled.{length_xored, getD_xored}
 use Rattle.scramble.proofs.xor_into.Given as goal
 
 abbrev pub invariant-loop-i : goal.invariant-loop-i

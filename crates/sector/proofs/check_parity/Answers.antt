@@ -1,14 +1,12 @@
 -- `sector::check_parity` meets its contract. Assumes nothing.
 use mathlib.Core.Path.{ap, ◌∙◌}
 use mathlib.Core.Bool.{Bool}
-use Prim.Native.Nat.{ℕ}
 use Rattle.laws.specs.Numbers.{weight}
 use Rattle.reply.specs.Reply.{answer}
 use Rattle.sector.specs.declared.layout.Layout.{Layout}
 use Rattle.sector.specs.Layout.{layout}
 use Rattle.sector.specs.Calls.{words_hold}
 use Rattle.sector.proofs.Answers.{parity_short, parity_done}
-use borrow.Author.Rules.{rules}
 use Rattle.sector.proofs.check_parity.Goals as goal
 
 pub returns-then-sector-ne-LENGTH : goal.returns-then-sector-ne-LENGTH

@@ -1,9 +1,7 @@
 -- `sector::judge` meets its contract. Assumes nothing.
 use mathlib.Core.Path.{sym, ap, ◌∙◌}
-use borrow.Author.Tests.{not-true, not-false}
 use Rattle.sector.specs.declared.Judgement.{Judgement}
 use Rattle.sector.proofs.Answers.{judge_short, judge_out, judge_done}
-use borrow.Author.Rules.{rules}
 use Rattle.sector.proofs.judge.Goals as goal
 
 pub returns-then-sector-ne-LENGTH : goal.returns-then-sector-ne-LENGTH

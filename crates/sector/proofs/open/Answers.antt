@@ -1,7 +1,6 @@
 -- `sector::open` meets its contract. Assumes nothing.
 use mathlib.Core.Path.{◌∙◌}
 use Rattle.sector.proofs.Answers.{open_short, open_done}
-use borrow.Author.Rules.{rules}
 use Rattle.sector.proofs.open.Goals as goal
 
 pub returns-then-sector-ne-LENGTH : goal.returns-then-sector-ne-LENGTH

@@ -1,6 +1,5 @@
 -- `sector::receive` meets its contract. Assumes nothing.
 use Rattle.sector.proofs.Received.{taken}
-use borrow.Author.Rules.{rules}
 use Rattle.sector.proofs.receive.Goals as goal
 
 pub returns : goal.returns

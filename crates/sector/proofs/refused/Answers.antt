@@ -1,7 +1,6 @@
 -- `sector::refused` meets its contract. Assumes nothing.
 use mathlib.Core.Path.{ap}
 use Rattle.sector.specs.declared.Judgement.{Judgement}
-use borrow.Author.Rules.{rules}
 use Rattle.sector.proofs.refused.Goals as goal
 
 pub returns : goal.returns

@@ -1,6 +1,5 @@
 -- `sector::seal` meets its contract. Assumes nothing.
 use mathlib.Core.Path.{sym, ap, ◌∙◌, subst}
-use borrow.Author.Tests.{not-true, not-false}
 use Rattle.laws.proofs.Choice.{left_false, right_false}
 use Rattle.scramble.specs.Scramble.{scrambled}
 use Rattle.sector.specs.declared.layout.Layout.{Layout}
@@ -9,7 +8,6 @@ use Rattle.sector.specs.Layout.{Fits}
 use Rattle.sector.specs.Sector.{encoded}
 use Rattle.sector.proofs.Answers.{seal_short, seal_not, seal_done}
 use Rattle.sector.proofs.Layouts.{fits}
-use borrow.Author.Rules.{rules}
 use Rattle.sector.proofs.seal.Goals as goal
 
 pub returns-then-sector-ne-LENGTH : goal.returns-then-sector-ne-LENGTH

@@ -1,9 +1,8 @@
 -- `sector::words_hold` meets its contract. Assumes nothing.
 use mathlib.Core.Path.{sym, ap, ◌∙◌}
-use mathlib.Core.Bool.{Bool, not, ◌||◌}
+use mathlib.Core.Bool.{Bool, ◌||◌}
 use Rattle.parity.specs.Parity.{parity_holds}
 use Rattle.sector.specs.Calls.{words_hold}
-use borrow.Author.Rules.{rules}
 use Rattle.sector.proofs.words_hold.Goals as goal
 
 pub returns-then-not-layout : goal.returns-then-not-layout

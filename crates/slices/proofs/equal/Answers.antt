@@ -1,10 +1,8 @@
 -- `slices::equal` meets its contract. The loop's invariant: what is left of the two is equal just if they are.
 -- Assumes nothing.
-use mathlib.Core.Path.{◌≡◌, refl, sym, ap, ◌∙◌}
-use Prim.Native.Nat.{◌≤◌, ◌-◌}
+use mathlib.Core.Path.{refl, sym, ap, ◌∙◌}
 use native.Mathlib.Omega.{arith}
-use lib.ListN.{length, drop}
-use Rattle.laws.specs.Same.{same}
+use lib.ListN.{length}
 use Rattle.laws.proofs.Same.{not_same}
 use Rattle.laws.proofs.Rest.{same_differ, same_step, same_end}
 use Rattle.slices.proofs.equal.Goals as goal

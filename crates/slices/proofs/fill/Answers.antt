@@ -1,9 +1,9 @@
 -- `slices::fill` meets its contract. The loop's invariant: the bytes before `i` are the given one, and the length is kept.
 -- Assumes nothing.
 use mathlib.Core.Path.{◌≡◌, refl, sym}
-use Prim.Native.Nat.{◌≤◌, ◌<◌, ◌-◌}
+use Prim.Native.Nat.{◌<◌}
 use native.Mathlib.Omega.{arith}
-use lib.ListN.{length, take, replicate, length-replicate, length-set, get_or-replicate}
+use lib.ListN.{length, replicate, length-replicate, length-set, get_or-replicate}
 use Rattle.laws.proofs.Grow.{grow, grown}
 use Rattle.slices.proofs.fill.Goals as goal
 

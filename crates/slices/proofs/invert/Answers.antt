@@ -1,12 +1,11 @@
 -- `slices::invert` meets its contract. The loop's invariant: the first i bytes are inverted, and the others are as they were. Assumes nothing.
-use mathlib.Core.Path.{◌≡◌, refl, sym, ap, ◌∙◌}
-use Prim.Native.Nat.{ℕ, ◌≤◌, ◌-◌}
+use mathlib.Core.Path.{refl, sym, ap, ◌∙◌}
+use Prim.Native.Nat.{ℕ, ◌-◌}
 use native.Mathlib.Omega.{arith}
-use lib.ListN.{length, take, drop, length-set}
+use lib.ListN.{length-set}
 use Rattle.laws.specs.Bytes.{inverted}
 use Rattle.laws.proofs.Bytes.{length_inverted, getD_inverted}
 use Rattle.laws.proofs.Grow.{grow, grown, left, ahead}
-use borrow.Author.Rules.{rules}
 use Rattle.slices.proofs.invert.Goals as goal
 
 pub loop-i-init : goal.loop-i-init

@@ -1,8 +1,8 @@
 -- `burst::copy::copy_words` meets its contract. The loop's invariant: the words before `i` are copied, and the length is kept. Assumes nothing.
 use mathlib.Core.Path.{◌≡◌, refl, sym, ◌∙◌}
-use Prim.Native.Nat.{◌≤◌, ◌<◌, ◌-◌}
+use Prim.Native.Nat.{◌<◌}
 use native.Mathlib.Omega.{arith}
-use lib.ListN.{length, take, length-set}
+use lib.ListN.{length, length-set}
 use Rattle.laws.specs.Bytes.{words_at}
 use Rattle.laws.proofs.Grow.{grow, grown}
 use Rattle.laws.proofs.Words.{words_length, words_one}

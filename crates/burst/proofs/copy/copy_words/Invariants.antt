@@ -1,11 +1,8 @@
 -- `burst::copy::copy_words` meets its contract. The loop's invariant: the words before `i` are copied, and the length is kept. Assumes nothing.
-use mathlib.Core.Path.{◌≡◌, refl, sym, ◌∙◌}
-use Prim.Native.Nat.{◌≤◌, ◌<◌, ◌-◌}
-use native.Mathlib.Omega.{arith}
-use lib.ListN.{length, take, length-set}
+use mathlib.Core.Path.{◌≡◌}
+use Prim.Native.Nat.{◌≤◌, ◌-◌}
+use lib.ListN.{length, take}
 use Rattle.laws.specs.Bytes.{words_at}
-use Rattle.laws.proofs.Grow.{grow, grown}
-use Rattle.laws.proofs.Words.{words_length, words_one}
 use Rattle.burst.proofs.copy.copy_words.Given as goal
 
 abbrev pub invariant-loop-i : goal.invariant-loop-i

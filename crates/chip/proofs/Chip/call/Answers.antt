@@ -1,6 +1,5 @@
 -- `chip::Chip::call` meets its contract. Assumes nothing.
 use Rattle.chip.proofs.Answers.{called_refused, called_place, called_packet, called_done}
-use borrow.Author.Rules.{rules}
 use Rattle.chip.proofs.Chip.call.Goals as goal
 
 pub returns-then-not-sound : goal.returns-then-not-sound

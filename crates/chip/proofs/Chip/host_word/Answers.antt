@@ -1,6 +1,5 @@
 -- `chip::Chip::host_word` meets its contract. Assumes nothing.
 use Rattle.chip.proofs.Answers.{word_refused, word_place, word_in, word_handed, word_barred}
-use borrow.Author.Rules.{rules}
 use Rattle.chip.proofs.Chip.host_word.Goals as goal
 
 pub returns-then-not-ready : goal.returns-then-not-ready

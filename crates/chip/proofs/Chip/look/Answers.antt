@@ -1,7 +1,6 @@
 -- `chip::Chip::look` meets its contract. Assumes nothing.
 use native.Mathlib.Omega.{arith}
 use Rattle.chip.proofs.Answers.{look_end, look_shows}
-use borrow.Author.Rules.{rules}
 use Rattle.chip.proofs.Chip.look.Goals as goal
 
 pub overflow_add-e : goal.overflow_add-e

@@ -1,6 +1,5 @@
 -- `chip::Chip::look_part` meets its contract. Assumes nothing.
 use Rattle.chip.proofs.Answers.{part_refused, part_done}
-use borrow.Author.Rules.{rules}
 use Rattle.chip.proofs.Chip.look_part.Goals as goal
 
 pub returns-then-not-ready-counts : goal.returns-then-not-ready-counts

@@ -1,6 +1,5 @@
 -- `chip::Chip::open` meets its contract. Assumes nothing.
 use Rattle.chip.specs.Chip.{opened}
-use borrow.Author.Rules.{rules}
 use Rattle.chip.proofs.Chip.open.Goals as goal
 
 pub returns-then-n : goal.returns-then-n

@@ -1,6 +1,5 @@
 -- `chip::Chip::sector` meets its contract. Assumes nothing.
 use Rattle.chip.proofs.Answers.{sector_refused, sector_place, sector_in, sector_long, sector_expected, sector_counts, sector_done}
-use borrow.Author.Rules.{rules}
 use Rattle.chip.proofs.Chip.sector.Goals as goal
 
 pub returns-then-number-ne0 : goal.returns-then-number-ne0

@@ -1,6 +1,5 @@
 -- `chip::Chip::sector_number` meets its contract. Assumes nothing.
 use Rattle.chip.proofs.Answers.{number_refused, number_place, number_done}
-use borrow.Author.Rules.{rules}
 use Rattle.chip.proofs.Chip.sector_number.Goals as goal
 
 pub returns-then-not-ready-sector : goal.returns-then-not-ready-sector

@@ -1,6 +1,5 @@
 -- `chip::Chip::sound` meets its contract. Assumes nothing.
 use Rattle.chip.specs.Sound.{sound}
-use borrow.Author.Rules.{rules}
 use Rattle.chip.proofs.Chip.sound.Goals as goal
 
 pub returns : goal.returns

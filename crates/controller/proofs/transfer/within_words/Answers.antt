@@ -1,7 +1,7 @@
 -- `controller::transfer::within_words` meets its contract. The loop's invariant: the lesser of what is left and the bound is that of what was asked for.
 -- Assumes nothing.
-use mathlib.Core.Path.{◌≡◌, refl, sym, ap, ◌∙◌}
-use Prim.Native.Nat.{ℕ, ◌-◌, ◌*◌, ◌/◌, ◌<◌, min}
+use mathlib.Core.Path.{refl, sym, ap, ◌∙◌}
+use Prim.Native.Nat.{ℕ, ◌-◌, ◌*◌, ◌<◌, min}
 use native.Mathlib.Nat.{mul-div-mul_right, mul-le-mul}
 use native.Mathlib.Omega.{arith}
 use Rattle.laws.proofs.Quotient.{above, one_less, within, product_less_one, factor_within}

@@ -1,11 +1,9 @@
 -- `edc::division::stretch` meets its contract. The invariant: the ring's register, with what is left of `s`, gives the code. Assumes nothing.
-use mathlib.Core.Path.{◌≡◌, refl, ap, ap₂, ◌∙◌}
-use Prim.Native.Nat.{ℕ, ◌+◌, ◌-◌, ◌*◌, ◌≤◌}
-use native.Mathlib.Omega.{arith}
-use lib.ListN.{length, drop, length-set}
+use mathlib.Core.Path.{◌≡◌}
+use Prim.Native.Nat.{◌+◌, ◌-◌, ◌*◌, ◌≤◌}
+use lib.ListN.{length, drop}
 use Rattle.edc.specs.Edc.{edc}
 use Rattle.edc.specs.Fold.{held}
-use Rattle.edc.proofs.Ring.{ring_next}
 use Rattle.edc.proofs.division.stretch.Given as goal
 
 abbrev pub invariant-loop-i : goal.invariant-loop-i

@@ -1,8 +1,7 @@
 -- `edc::folding::add_back` meets its contract. The invariant: the words below `i` have theirs xored in. Assumes nothing.
 use mathlib.Core.Path.{◌≡◌}
-use Prim.Native.Nat.{◌-◌, ◌<◌, ◌≤◌}
 use native.Mathlib.Omega.{arith}
-use Rattle.edc.proofs.Ring.{Back, back_none, back_next, back_end}
+use Rattle.edc.proofs.Ring.{back_none, back_next, back_end}
 use Rattle.edc.proofs.folding.add_back.Goals as goal
 
 pub loop-i-init : goal.loop-i-init

@@ -1,8 +1,6 @@
 -- `edc::folding::add_back` meets its contract. The invariant: the words below `i` have theirs xored in. Assumes nothing.
-use mathlib.Core.Path.{◌≡◌}
 use Prim.Native.Nat.{◌-◌, ◌<◌, ◌≤◌}
-use native.Mathlib.Omega.{arith}
-use Rattle.edc.proofs.Ring.{Back, back_none, back_next, back_end}
+use Rattle.edc.proofs.Ring.{Back}
 use Rattle.edc.proofs.folding.add_back.Given as goal
 
 abbrev pub invariant-loop-i : goal.invariant-loop-i

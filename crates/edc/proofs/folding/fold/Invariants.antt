@@ -1,11 +1,8 @@
 -- `edc::folding::fold` meets its contract. The invariant: the words from `i` on leave the register that those from `start` on left. Assumes nothing.
-use mathlib.Core.Path.{◌≡◌, refl, ◌∙◌, subst}
-use Prim.Native.Nat.{ℕ, ◌+◌, ◌-◌, ◌≤◌}
-use native.Mathlib.Omega.{arith}
+use mathlib.Core.Path.{◌≡◌}
+use Prim.Native.Nat.{◌-◌, ◌≤◌}
 use lib.ListN.{length}
 use Rattle.edc.specs.Fold.{code, along}
-use Rattle.edc.proofs.Folds.{folds_of}
-use Rattle.edc.proofs.Moved.{turn}
 use Rattle.edc.proofs.folding.fold.Given as goal
 
 abbrev pub invariant-loop-i : goal.invariant-loop-i

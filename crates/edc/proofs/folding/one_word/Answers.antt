@@ -1,5 +1,4 @@
 -- `edc::folding::one_word` meets its contract: what is left of the division, and the folds at 32, 16, 8, 4 and 2. Assumes nothing.
-use borrow.Author.Rules.{rules}
 use mathlib.Core.Path.{refl, ◌∙◌}
 use native.Mathlib.Omega.{arith}
 use Rattle.edc.specs.Fold.{scale}

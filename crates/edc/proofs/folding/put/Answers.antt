@@ -1,5 +1,4 @@
 -- `edc::folding::put` meets its contract: two stores. Assumes nothing.
-use borrow.Author.Rules.{rules}
 use mathlib.Core.Path.{refl}
 use lib.ListN.{length-set}
 use Rattle.edc.proofs.Moved.{put_law}

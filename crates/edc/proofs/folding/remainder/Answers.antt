@@ -1,5 +1,4 @@
 -- `edc::folding::remainder` meets its contract. Assumes nothing.
-use borrow.Author.Rules.{rules}
 use Rattle.edc.proofs.Ring.{left_over}
 use Rattle.edc.proofs.folding.remainder.Goals as goal
 

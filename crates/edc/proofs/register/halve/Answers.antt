@@ -1,5 +1,4 @@
 -- `edc::register::halve` meets its contract. Assumes nothing.
-use borrow.Author.Rules.{rules}
 use mathlib.Core.Path.{refl}
 use Rattle.edc.proofs.Halves.{high_lt}
 use Rattle.edc.proofs.register.halve.Goals as goal

@@ -1,5 +1,4 @@
 -- `edc::register::join_two` meets its contract. Assumes nothing.
-use borrow.Author.Rules.{rules}
 use Rattle.edc.proofs.Halves.{two}
 use Rattle.edc.proofs.register.join_two.Goals as goal
 

@@ -1,5 +1,4 @@
 -- `edc::register::on` meets its contract. Assumes nothing.
-use borrow.Author.Rules.{rules}
 use mathlib.Core.Path.{refl}
 use Rattle.edc.specs.Fold.{on}
 use Rattle.edc.proofs.register.on.Goals as goal

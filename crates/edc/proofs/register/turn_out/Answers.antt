@@ -1,5 +1,4 @@
 -- `edc::register::turn_out` meets its contract: the formula is tested with the numbers of places that the code has. Assumes nothing.
-use borrow.Author.Rules.{rules}
 use mathlib.Core.Path.{refl}
 use Rattle.edc.proofs.Folds.{steps}
 use Rattle.edc.proofs.Quotient.{right, out_is}

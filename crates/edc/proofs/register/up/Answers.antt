@@ -1,5 +1,4 @@
 -- `edc::register::up` meets its contract. Assumes nothing.
-use borrow.Author.Rules.{rules}
 use mathlib.Core.Path.{refl}
 use Rattle.edc.specs.Fold.{up}
 use Rattle.edc.proofs.register.up.Goals as goal

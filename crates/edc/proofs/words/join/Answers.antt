@@ -1,5 +1,4 @@
 -- `edc::words::join` meets its contract: eight bytes fed are one word. Assumes nothing.
-use borrow.Author.Rules.{rules}
 use Rattle.edc.proofs.Octets.{fed_eight}
 use Rattle.edc.proofs.words.join.Goals as goal
 

@@ -1,6 +1,5 @@
 -- `encoding::pairs::flags` meets its contract. Assumes nothing.
 use Rattle.encoding.proofs.Laid.{flags_of}
-use borrow.Author.Rules.{rules}
 use Rattle.encoding.proofs.pairs.flags.Goals as goal
 
 pub returns : goal.returns

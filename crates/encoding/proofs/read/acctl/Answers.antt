@@ -1,6 +1,5 @@
 -- `encoding::read::acctl` meets its contract. Assumes nothing.
 use Rattle.encoding.proofs.Groups.{acctl_of}
-use borrow.Author.Rules.{rules}
 use Rattle.encoding.proofs.read.acctl.Goals as goal
 
 pub returns : goal.returns

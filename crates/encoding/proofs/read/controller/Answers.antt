@@ -1,6 +1,5 @@
 -- `encoding::read::controller` meets its contract. Assumes nothing.
 use Rattle.encoding.proofs.Groups.{controller_of}
-use borrow.Author.Rules.{rules}
 use Rattle.encoding.proofs.read.controller.Goals as goal
 
 pub returns : goal.returns

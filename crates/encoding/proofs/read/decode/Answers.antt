@@ -1,6 +1,5 @@
 -- `encoding::read::decode` meets its contract. Assumes nothing.
 use Rattle.encoding.proofs.Groups.{chip_of}
-use borrow.Author.Rules.{rules}
 use Rattle.encoding.proofs.read.decode.Goals as goal
 
 pub returns : goal.returns

@@ -1,6 +1,5 @@
 -- `encoding::read::judgement` meets its contract. Assumes nothing.
 use Rattle.encoding.proofs.Groups.{judgement_of}
-use borrow.Author.Rules.{rules}
 use Rattle.encoding.proofs.read.judgement.Goals as goal
 
 pub returns : goal.returns

@@ -1,6 +1,5 @@
 -- `encoding::read::packet` meets its contract. Assumes nothing.
 use Rattle.encoding.proofs.Groups.{packet_of}
-use borrow.Author.Rules.{rules}
 use Rattle.encoding.proofs.read.packet.Goals as goal
 
 pub returns : goal.returns

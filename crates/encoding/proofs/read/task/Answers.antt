@@ -1,6 +1,5 @@
 -- `encoding::read::task` meets its contract. Assumes nothing.
 use Rattle.encoding.proofs.Groups.{task_of}
-use borrow.Author.Rules.{rules}
 use Rattle.encoding.proofs.read.task.Goals as goal
 
 pub returns : goal.returns

@@ -2,7 +2,6 @@
 use mathlib.Core.Path.{◌∙◌, ap}
 use Rattle.encoding.specs.Words.{decoded}
 use Rattle.encoding.proofs.Laid.{decoded_encoded}
-use borrow.Author.Rules.{rules}
 use Rattle.encoding.proofs.write.encode.Goals as goal
 
 pub returns : goal.returns

@@ -2,7 +2,6 @@
 use mathlib.Core.Path.{ap, ◌∙◌}
 use Rattle.laws.specs.Bytes.{pair}
 use Rattle.encoding.proofs.Laid.{words_of}
-use borrow.Author.Rules.{rules}
 use Rattle.encoding.proofs.write.laid.Goals as goal
 
 pub returns : goal.returns

@@ -1,7 +1,6 @@
 -- `encoding::write::why_byte` meets its contract. Assumes nothing.
 use native.Mathlib.Omega.{arith}
 use Rattle.sector.proofs.Claims.{facts_hold}
-use borrow.Author.Rules.{rules}
 use Rattle.encoding.proofs.write.why_byte.Goals as goal
 
 pub overflow_cast-result : goal.overflow_cast-result

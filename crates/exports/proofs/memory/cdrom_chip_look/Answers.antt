@@ -2,7 +2,6 @@
 use mathlib.Core.Path.{◌∙◌, ap}
 use Rattle.chip.specs.Calls.{look_part}
 use Rattle.chip.specs.declared.Chip.{Chip}
-use borrow.Author.Rules.{rules}
 use Rattle.exports.proofs.memory.cdrom_chip_look.Goals as goal
 
 pub returns : goal.returns

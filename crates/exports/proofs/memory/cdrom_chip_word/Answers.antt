@@ -7,7 +7,6 @@ use Rattle.chip.specs.declared.Chip.{Chip}
 use Rattle.encoding.specs.Words.{decoded}
 use Rattle.burst.specs.Burst.{ahead}
 use Rattle.exports.proofs.Chips.{position_small, word_ahead, word_handed, word_refused}
-use borrow.Author.Rules.{rules}
 use Rattle.exports.proofs.memory.cdrom_chip_word.Goals as goal
 
 pub advance-requires : goal.advance-requires

@@ -5,7 +5,6 @@ use Rattle.chip.specs.declared.Chip.{Chip}
 use Rattle.encoding.specs.Words.{decoded}
 use Rattle.burst.specs.Burst.{host_words, told_of, written}
 use Rattle.exports.proofs.Chips.{words_none, words_some}
-use borrow.Author.Rules.{rules}
 use Rattle.exports.proofs.memory.cdrom_chip_words.Goals as goal
 
 pub returns-then-burst-eq0 : goal.returns-then-burst-eq0

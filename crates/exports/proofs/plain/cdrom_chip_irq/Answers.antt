@@ -2,7 +2,6 @@
 use mathlib.Core.Path.{◌∙◌, ap}
 use Rattle.laws.specs.Numbers.{weight}
 use Rattle.chip.specs.declared.Chip.{Chip}
-use borrow.Author.Rules.{rules}
 use Rattle.exports.proofs.plain.cdrom_chip_irq.Goals as goal
 
 pub returns : goal.returns

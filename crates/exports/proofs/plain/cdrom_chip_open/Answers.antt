@@ -2,7 +2,6 @@
 use mathlib.Core.Path.{◌∙◌, ap}
 use Rattle.chip.specs.declared.Told.{Told}
 use Rattle.exports.specs.Words.{reply_word}
-use borrow.Author.Rules.{rules}
 use Rattle.exports.proofs.plain.cdrom_chip_open.Goals as goal
 
 pub returns : goal.returns

@@ -5,7 +5,6 @@ use Rattle.sector.specs.declared.Address.{Address}
 use Rattle.chip.specs.Calls.{called}
 use Rattle.encoding.specs.Words.{decoded}
 use Rattle.exports.specs.Chips.{Answered}
-use borrow.Author.Rules.{rules}
 use Rattle.exports.proofs.plain.cdrom_chip_set_expected.Goals as goal
 
 pub returns : goal.returns

@@ -2,7 +2,6 @@
 use mathlib.Core.Path.{◌∙◌, ap}
 use Rattle.sector.specs.Judge.{why}
 use Rattle.chip.specs.declared.Chip.{Chip}
-use borrow.Author.Rules.{rules}
 use Rattle.exports.proofs.plain.cdrom_chip_why.Goals as goal
 
 pub returns : goal.returns

@@ -3,7 +3,6 @@ use mathlib.Core.Path.{◌∙◌, ap}
 use Rattle.chip.specs.Calls.{called}
 use Rattle.chip.specs.declared.Chip.{Chip}
 use Rattle.exports.proofs.Chips.{answered_refused, answered_done}
-use borrow.Author.Rules.{rules}
 use Rattle.exports.proofs.plain.plain.Goals as goal
 
 pub returns-then-reply-ne0 : goal.returns-then-reply-ne0

@@ -1,13 +1,9 @@
 -- `parity::field::product` meets its contract. The invariant: the sum so far and the product of what is left give the product.
 -- Assumes nothing.
-use mathlib.Core.Path.{◌≡◌, sym, ap, ◌∙◌, subst⁻¹}
-use Prim.Native.Nat.{ℕ, suc, ◌≤◌, ◌<◌, ◌-◌, ◌+◌, ◌*◌, ◌/◌, ◌%◌}
-use native.Mathlib.Omega.{arith}
-use lib.Bits.{bit_xor, xor_zero_l, xor_zero_r}
-use Rattle.laws.proofs.Xor.{xor_assoc, odd_lt}
-use Rattle.laws.proofs.Bit.{bit_times_lt}
-use Rattle.parity.specs.Field.{times_x, product_bits, product}
-use Rattle.parity.proofs.FieldLaws.{times_x_lt}
+use mathlib.Core.Path.{◌≡◌}
+use Prim.Native.Nat.{◌≤◌, ◌<◌, ◌-◌}
+use lib.Bits.{bit_xor}
+use Rattle.parity.specs.Field.{product_bits, product}
 use Rattle.parity.proofs.field.product.Given as goal
 
 abbrev pub invariant-loop-k : goal.invariant-loop-k

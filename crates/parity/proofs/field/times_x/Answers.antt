@@ -1,6 +1,5 @@
 -- `parity::field::times_x` meets its contract. Assumes nothing.
 use mathlib.Core.Path.{sym}
-use borrow.Author.Rules.{rules}
 use Rattle.parity.proofs.FieldLaws.{times_x_byte}
 use Rattle.parity.proofs.field.times_x.Goals as goal
 

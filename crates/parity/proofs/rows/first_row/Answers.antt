@@ -1,6 +1,4 @@
 -- `parity::rows::first_row` meets its contract. Assumes nothing.
-use mathlib.Core.Path.{refl}
-use borrow.Author.Rules.{rules}
 use Rattle.parity.proofs.First.{as_it_is, with_zeros}
 use Rattle.parity.proofs.rows.first_row.Goals as goal
 

@@ -1,10 +1,7 @@
 -- `parity::rows::in_word_order` meets its contract. Assumes nothing.
-use mathlib.Core.Path.{refl}
 use Prim.Native.Nat.{ℕ, ◌+◌, ◌*◌, ◌-◌, ◌/◌, ◌%◌, ◌≤◌}
-use native.Mathlib.Omega.{arith}
 use lib.ListN.{get_or, replicate}
-use Rattle.laws.proofs.Mapped.{Mapped, mapped_none, mapped_more}
-use Rattle.laws.proofs.Listed.{listed_of}
+use Rattle.laws.proofs.Mapped.{Mapped}
 use Rattle.parity.proofs.rows.in_word_order.Given as goal
 
 abbrev pub invariant-loop-v : goal.invariant-loop-v

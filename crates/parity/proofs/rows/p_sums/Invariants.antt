@@ -1,8 +1,5 @@
 -- `parity::rows::p_sums` meets its contract. Assumes nothing.
-use mathlib.Core.Path.{sym, ◌∙◌, subst}
-use Prim.Native.Nat.{ℕ, ◌-◌, ◌≤◌}
-use native.Mathlib.Omega.{arith}
-use Rattle.parity.proofs.RowLaws.{p_step}
+use Prim.Native.Nat.{◌-◌, ◌≤◌}
 use Rattle.parity.specs.Rows.{view, Sums, p_lane}
 use Rattle.parity.proofs.rows.p_sums.Given as goal
 

@@ -1,6 +1,6 @@
 -- `parity::rows::q_begin` meets its contract. Assumes nothing.
-use mathlib.Core.Path.{sym, ◌∙◌, subst}
-use Prim.Native.Nat.{ℕ, ◌+◌, ◌*◌, ◌-◌, ◌≤◌}
+use mathlib.Core.Path.{subst}
+use Prim.Native.Nat.{ℕ, ◌+◌, ◌*◌, ◌-◌}
 use native.Mathlib.Omega.{arith}
 use Rattle.parity.proofs.RowLaws.{q_step}
 use Rattle.parity.specs.Rows.{view, Sums, q_lane, met}

@@ -1,8 +1,5 @@
 -- `parity::rows::q_begin` meets its contract. Assumes nothing.
-use mathlib.Core.Path.{sym, ◌∙◌, subst}
-use Prim.Native.Nat.{ℕ, ◌+◌, ◌*◌, ◌-◌, ◌≤◌}
-use native.Mathlib.Omega.{arith}
-use Rattle.parity.proofs.RowLaws.{q_step}
+use Prim.Native.Nat.{◌-◌, ◌≤◌}
 use Rattle.parity.specs.Rows.{view, Sums, q_lane, met}
 use Rattle.parity.proofs.rows.q_begin.Given as goal
 

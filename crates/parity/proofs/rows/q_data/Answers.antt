@@ -3,7 +3,6 @@ use mathlib.Core.Path.{refl, ap, ◌∙◌}
 use Prim.Native.Nat.{◌+◌}
 use native.Mathlib.Omega.{arith}
 use lib.ListN.{length}
-use borrow.Author.Rules.{rules}
 use Rattle.laws.proofs.Listed.{length_listed}
 use Rattle.parity.proofs.Coded.{q_summed}
 use Rattle.parity.proofs.Lanes.{sums_none}

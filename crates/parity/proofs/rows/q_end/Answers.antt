@@ -1,9 +1,8 @@
 -- `parity::rows::q_end` meets its contract. Assumes nothing.
-use mathlib.Core.Path.{sym, ◌∙◌}
-use Prim.Native.Nat.{◌*◌, ◌-◌, ◌%◌, ◌≤◌}
+use Prim.Native.Nat.{◌*◌, ◌-◌, ◌%◌}
 use native.Mathlib.Omega.{arith}
 use Rattle.parity.proofs.RowLaws.{q_step, q_whole}
-use Rattle.parity.specs.Rows.{view, Sums, q_lane, met}
+use Rattle.parity.specs.Rows.{view}
 use Rattle.parity.proofs.rows.q_end.Goals as goal
 
 pub loop-r-init : goal.loop-r-init

@@ -1,8 +1,5 @@
 -- `parity::rows::q_end` meets its contract. Assumes nothing.
-use mathlib.Core.Path.{sym, ◌∙◌}
-use Prim.Native.Nat.{◌*◌, ◌-◌, ◌%◌, ◌≤◌}
-use native.Mathlib.Omega.{arith}
-use Rattle.parity.proofs.RowLaws.{q_step, q_whole}
+use Prim.Native.Nat.{◌-◌, ◌≤◌}
 use Rattle.parity.specs.Rows.{view, Sums, q_lane, met}
 use Rattle.parity.proofs.rows.q_end.Given as goal
 

@@ -1,10 +1,10 @@
 -- `parity::rows::take_in` meets its contract. Assumes nothing.
 use mathlib.Core.Path.{ap, ◌∙◌}
-use Prim.Native.Nat.{ℕ, ◌-◌, ◌≤◌}
+use Prim.Native.Nat.{ℕ}
 use native.Mathlib.Omega.{arith}
 use lib.Bits.{bit_xor}
-use lib.ListN.{length, get_or}
-use Rattle.laws.proofs.Mapped.{Mapped, mapped_none, mapped_more}
+use lib.ListN.{get_or}
+use Rattle.laws.proofs.Mapped.{mapped_none, mapped_more}
 use Rattle.parity.proofs.Lanes.{taken_all}
 use Rattle.parity.specs.Field.{times_x}
 use Rattle.parity.proofs.rows.take_in.Goals as goal

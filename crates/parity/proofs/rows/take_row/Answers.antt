@@ -1,6 +1,5 @@
 -- `parity::rows::take_row` meets its contract. Assumes nothing.
 use native.Mathlib.Omega.{arith}
-use borrow.Author.Rules.{rules}
 use Rattle.parity.proofs.RowLaws.{row_first, row_other}
 use Rattle.parity.proofs.Lanes.{taken_same}
 use Rattle.parity.proofs.rows.take_row.Goals as goal

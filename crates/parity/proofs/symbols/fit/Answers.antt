@@ -1,12 +1,11 @@
 -- `parity::symbols::fit` meets its contract. Assumes nothing.
 use mathlib.Core.Path.{◌≡◌, refl, ap, ◌∙◌}
-use Prim.Native.Nat.{ℕ, ◌-◌, ◌≤◌}
+use Prim.Native.Nat.{ℕ}
 use native.Mathlib.Omega.{arith}
 use lib.ListN.{length, get_or}
 use Rattle.laws.specs.Listed.{all_below}
 use Rattle.parity.proofs.Lanes.{fits_more}
 use Rattle.parity.specs.Rows.{fits}
-use Rattle.parity.specs.Field.{times_x}
 use Rattle.parity.proofs.symbols.fit.Goals as goal
 
 pub loop-v-init : goal.loop-v-init

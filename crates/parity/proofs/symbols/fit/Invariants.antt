@@ -1,12 +1,9 @@
 -- `parity::symbols::fit` meets its contract. Assumes nothing.
-use mathlib.Core.Path.{◌≡◌, refl, ap, ◌∙◌}
-use Prim.Native.Nat.{ℕ, ◌-◌, ◌≤◌}
-use native.Mathlib.Omega.{arith}
+use mathlib.Core.Path.{◌≡◌}
+use Prim.Native.Nat.{◌-◌, ◌≤◌}
 use lib.ListN.{length, get_or}
 use Rattle.laws.specs.Listed.{all_below}
-use Rattle.parity.proofs.Lanes.{fits_more}
 use Rattle.parity.specs.Rows.{fits}
-use Rattle.parity.specs.Field.{times_x}
 use Rattle.parity.proofs.symbols.fit.Given as goal
 
 abbrev pub invariant-loop-v : goal.invariant-loop-v

@@ -1,5 +1,4 @@
 -- `parity::symbols::put` meets its contract. Assumes nothing.
-use borrow.Author.Rules.{rules}
 use Rattle.laws.proofs.Parts.{put_two}
 use Rattle.parity.proofs.symbols.put.Goals as goal
 

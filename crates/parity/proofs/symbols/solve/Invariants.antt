@@ -1,14 +1,9 @@
 -- `parity::symbols::solve` meets its contract. Assumes nothing.
-use mathlib.Core.Path.{sym, ◌∙◌}
 use Prim.Native.Nat.{ℕ, ◌-◌, ◌≤◌}
-use native.Mathlib.Omega.{arith}
 use lib.ListN.{length, get_or}
 use lib.Bits.{bit_xor}
-use Rattle.laws.proofs.Mapped.{Mapped, mapped_none, mapped_more}
-use Rattle.laws.proofs.Listed.{listed_of}
-use Rattle.parity.proofs.Lanes.{solved}
+use Rattle.laws.proofs.Mapped.{Mapped}
 use Rattle.parity.specs.Rows.{first_of_sums}
-use Rattle.parity.specs.Field.{times_x}
 use Rattle.parity.proofs.symbols.solve.Given as goal
 
 abbrev pub invariant-loop-v : goal.invariant-loop-v

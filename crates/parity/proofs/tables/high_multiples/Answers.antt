@@ -1,7 +1,6 @@
 -- `parity::tables::high_multiples` meets its contract. Assumes nothing.
 use mathlib.Core.Path.{ap, ◌∙◌}
 use Prim.Native.Nat.{ℕ}
-use borrow.Author.Rules.{rules}
 use Rattle.parity.specs.Rows.{multiples}
 use Rattle.parity.specs.Field.{product}
 use Rattle.parity.proofs.tables.high_multiples.Goals as goal

@@ -1,7 +1,6 @@
 -- `parity::tables::inverse` meets its contract. Assumes nothing.
 use mathlib.Core.Path.{ap₂, ◌∙◌}
 use lib.Bits.{bit_xor}
-use borrow.Author.Rules.{rules}
 use Rattle.parity.proofs.TableLaws.{five_powers}
 use Rattle.parity.proofs.tables.inverse.Goals as goal
 

@@ -1,11 +1,11 @@
 -- `parity::tables::multiples` meets its contract. Assumes nothing.
 use mathlib.Core.Path.{refl, sym, ap, ap₂, ◌∙◌}
-use Prim.Native.Nat.{◌-◌, ◌/◌, ◌%◌, ◌≤◌}
+use Prim.Native.Nat.{◌/◌, ◌%◌}
 use native.Mathlib.Omega.{arith}
 use lib.Bits.{bit_xor}
 use lib.ListN.{replicate}
 use Rattle.laws.proofs.Listed.{listed_of}
-use Rattle.laws.proofs.Mapped.{Mapped, mapped_more}
+use Rattle.laws.proofs.Mapped.{mapped_more}
 use Rattle.laws.proofs.Bit.{bit_times_lt}
 use Rattle.laws.proofs.Xor.{odd_lt}
 use Rattle.parity.proofs.TableLaws.{product_half, multiples_none}

@@ -5,7 +5,6 @@ use Prim.Native.Nat.{ℕ, ◌/◌, ◌%◌}
 use native.Mathlib.Omega.{arith}
 use lib.Bits.{bit_xor}
 use lib.ListN.{get_or}
-use borrow.Author.Rules.{rules}
 use Rattle.laws.proofs.Listed.{getD_listed}
 use Rattle.parity.proofs.TableLaws.{product_nibbles}
 use Rattle.parity.proofs.FieldLaws.{power_lt}

@@ -1,6 +1,5 @@
 -- `ring::Place::step` meets its contract. Assumes nothing.
 use Rattle.ring.proofs.Steps.{step_store, step_advance, step_rewind, step_move, step_clear}
-use borrow.Author.Rules.{rules}
 use Rattle.ring.proofs.Place.step.Goals as goal
 
 pub returns-in-Store : goal.returns-in-Store

@@ -4,7 +4,6 @@ use Prim.Native.Nat.{◌*◌}
 use Rattle.laws.proofs.Parts.{put_part}
 use Rattle.sector.specs.Receive.{Received}
 use Rattle.ring.specs.Memory.{stored}
-use borrow.Author.Rules.{rules}
 use Rattle.ring.proofs.memory.store.Goals as goal
 
 pub returns : goal.returns

@@ -1,5 +1,5 @@
 -- `script::Bench::run` meets its contract. Assumes nothing.
-use Rattle.std.proofs.Common.{sym, arith, rules, lt-ltb}
+use Rattle.std.proofs.Common.{sym, arith, lt-ltb}
 use Rattle.laws.proofs.Choice.{if_true}
 use Rattle.script.specs.Bench.{ran}
 use Rattle.script.proofs.Running.{runs}
@@ -21,5 +21,8 @@ returns c =
     let carried = c.carried_after-left in
     let add = c.wrapping_add_u64-n in
     let shown = c.shown in
-    let print = c.print-size in record { told = runs a.self a.memory.now a.sector.now a.line.now a.out.now if1.false _ run.result carried.result _ _ _ add.result _ shown.result
-          parse.ensures run.ensures carried.ensures add.ensures.value shown.ensures print.ensures.value print.ensures.out_after; within = print.ensures.upper_bound }
+    let print = c.print-size in record {
+      told = runs a.self a.memory.now a.sector.now a.line.now a.out.now if1.false _ run.result carried.result _ _ _ add.result _ shown.result
+          parse.ensures run.ensures carried.ensures add.ensures.value shown.ensures print.ensures.value print.ensures.out_after;
+      within = print.ensures.upper_bound;
+    }

@@ -1,5 +1,5 @@
 -- `script::Bench::start` meets its contract. Assumes nothing.
-use Rattle.std.proofs.Common.{false, ap₂, rules}
+use Rattle.std.proofs.Common.{false, ap₂}
 use Rattle.chip.specs.declared.Told.{Told}
 use Rattle.script.specs.declared.disc.Carried.{Carried}
 use Rattle.script.proofs.Bench.start.Goals as goal

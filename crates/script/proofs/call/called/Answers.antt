@@ -1,5 +1,5 @@
 -- `script::call::called` meets its contract. Assumes nothing.
-use Rattle.std.proofs.Common.{Bool, sym, ap, ◌∙◌, rules}
+use Rattle.std.proofs.Common.{Bool, sym, ap, ◌∙◌}
 use Rattle.chip.specs.declared.Told.{Told}
 use Rattle.script.specs.Answers.{of_told, unchanged, said, called}
 use Rattle.script.proofs.call.called.Goals as goal

@@ -1,5 +1,5 @@
 -- `script::call::closed` meets its contract. Assumes nothing.
-use Rattle.std.proofs.Common.{sym, ap, ◌∙◌, rules}
+use Rattle.std.proofs.Common.{sym, ap, ◌∙◌}
 use Rattle.script.specs.Answers.{closed}
 use Rattle.script.proofs.call.closed.Goals as goal
 

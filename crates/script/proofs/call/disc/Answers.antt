@@ -1,5 +1,5 @@
 -- `script::call::disc` meets its contract. Assumes nothing.
-use Rattle.std.proofs.Common.{ℕ, replicate, ap, ◌∙◌, arith, rules}
+use Rattle.std.proofs.Common.{ℕ, replicate, ap, ◌∙◌, arith}
 use Rattle.chip.specs.Calls.{Lent}
 use Rattle.script.specs.Answers.{unchanged, of_told}
 use Rattle.script.specs.declared.call.Answer.{Answer}
@@ -14,7 +14,6 @@ returns-then-number-ne0 c =
     let number = c.disc_number-number in
     ap (unchanged R S) c.refused.ensures ∙ disc_not a.chip a.carried R S a.address a.byte number.result number.ensures c.if-number-ne0.true
 
-
 pub overflow_cast-byte : goal.overflow_cast-byte
 overflow_cast-byte c =
     let a = c.args in
@@ -28,7 +27,6 @@ scratch-requires c =
     let number = c.disc_number-number in
     let size = (admitted a.chip a.carried a.ring.now a.sector.now a.address a.byte number.result number.ensures c.if-number-ne0.false).0 in
     c.seal.auto.sector ∙ c.fill.auto.bytes ∙ size
-
 
 pub returns : goal.returns
 returns c =

@@ -1,6 +1,5 @@
 -- `script::call::disc_number` meets its contract. Assumes nothing.
-use Rattle.std.proofs.Common.{sym, ◌∙◌, rules}
-use borrow.Author.Tests.{not-true, not-false}
+use Rattle.std.proofs.Common.{sym, ◌∙◌}
 use Rattle.script.proofs.Answering.{number_size, number_fill, number_address, number_form, number_chip}
 use Rattle.script.proofs.call.disc_number.Goals as goal
 

@@ -1,5 +1,5 @@
 -- `script::call::host_word` meets its contract. Assumes nothing.
-use Rattle.std.proofs.Common.{◌∙◌, rules}
+use Rattle.std.proofs.Common.{◌∙◌}
 use Rattle.script.proofs.Answering.{word_not, word_given}
 use Rattle.script.proofs.call.host_word.Goals as goal
 

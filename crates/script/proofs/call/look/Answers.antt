@@ -1,5 +1,5 @@
 -- `script::call::look` meets its contract. Assumes nothing.
-use Rattle.std.proofs.Common.{true, length, ap, rules}
+use Rattle.std.proofs.Common.{true, length, ap}
 use Rattle.script.proofs.call.look.Goals as goal
 
 pub returns : goal.returns

@@ -1,5 +1,5 @@
 -- `script::call::open` meets its contract. Assumes nothing.
-use Rattle.std.proofs.Common.{Bool, eqb, sym, ap, ◌∙◌, rules, le-ltb, lt-ltb, eq-eqb, ne_eqb}
+use Rattle.std.proofs.Common.{Bool, eqb, sym, ap, ◌∙◌, le-ltb, lt-ltb, eq-eqb, ne_eqb}
 use Rattle.laws.proofs.Choice.{if_true, if_false}
 use Rattle.chip.specs.declared.Told.{Told}
 use Rattle.script.specs.Answers.{opening, of_told}

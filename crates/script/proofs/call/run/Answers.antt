@@ -1,5 +1,5 @@
 -- `script::call::run` meets its contract. Assumes nothing.
-use Rattle.std.proofs.Common.{ℕ, List, sym, ap, ◌∙◌, ap₂, arith, length-take-le, rules, not}
+use Rattle.std.proofs.Common.{ℕ, List, sym, ap, ◌∙◌, ap₂, arith, length-take-le, not}
 use Rattle.laws.proofs.Choice.{if_true, if_false}
 use Rattle.script.specs.Answers.{Answered, unchanged, called, with_rest, answered}
 use Rattle.laws.proofs.Ends.{least_take, least_drop}

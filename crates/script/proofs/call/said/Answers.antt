@@ -1,5 +1,5 @@
 -- `script::call::said` meets its contract. Assumes nothing.
-use Rattle.std.proofs.Common.{◌∙◌, rules, ap, not}
+use Rattle.std.proofs.Common.{◌∙◌, ap, not}
 use Rattle.script.proofs.Answering.{said_not, said_so}
 use Rattle.script.proofs.call.said.Goals as goal
 

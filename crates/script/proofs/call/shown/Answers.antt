@@ -1,7 +1,6 @@
 -- `script::call::shown` meets its contract. Assumes nothing.
-use Rattle.std.proofs.Common.{ℕ, ap, rules}
+use Rattle.std.proofs.Common.{ℕ, ap}
 use Rattle.script.specs.Answers.{shown}
-use Rattle.syntax.specs.declared.print.Shown.{Shown}
 use Rattle.script.proofs.call.shown.Goals as goal
 
 pub returns : goal.returns

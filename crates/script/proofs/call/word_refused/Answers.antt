@@ -1,5 +1,5 @@
 -- `script::call::word_refused` meets its contract. Assumes nothing.
-use Rattle.std.proofs.Common.{sym, ap, ◌∙◌, rules}
+use Rattle.std.proofs.Common.{sym, ap, ◌∙◌}
 use Rattle.script.specs.Answers.{word_refused}
 use Rattle.script.proofs.call.word_refused.Goals as goal
 

@@ -1,5 +1,5 @@
 -- `script::disc::by_line` meets its contract. Assumes nothing.
-use Rattle.std.proofs.Common.{sym, ap, ◌∙◌, rules}
+use Rattle.std.proofs.Common.{sym, ap, ◌∙◌}
 use Rattle.sector.specs.declared.Subheader.{Subheader}
 use Rattle.script.specs.Disc.{carried_by}
 use Rattle.script.specs.declared.disc.Damage.{Damage}

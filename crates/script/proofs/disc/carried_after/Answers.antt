@@ -1,5 +1,5 @@
 -- `script::disc::carried_after` meets its contract. Assumes nothing.
-use Rattle.std.proofs.Common.{sym, ◌∙◌, rules, eq-eqb, ne_eqb}
+use Rattle.std.proofs.Common.{sym, ◌∙◌, eq-eqb, ne_eqb}
 use Rattle.laws.proofs.Choice.{if_true, if_false}
 use Rattle.script.specs.Disc.{carried_after}
 use Rattle.script.proofs.disc.carried_after.Goals as goal

@@ -1,6 +1,5 @@
 -- `script::disc::scratch` meets its contract. Assumes nothing.
-use Rattle.std.proofs.Common.{◌+◌, ◌≤◌, sym, ◌∙◌, arith, rules, leb-true, ap, not}
-use borrow.Author.Tests.{not-false}
+use Rattle.std.proofs.Common.{◌+◌, ◌≤◌, sym, ◌∙◌, arith, leb-true, ap, not}
 use Rattle.script.proofs.Answering.{as_it_was, turned}
 use Rattle.script.proofs.disc.scratch.Goals as goal
 

@@ -1,5 +1,5 @@
 -- `script::disc::subheader_of` meets its contract. Assumes nothing.
-use Rattle.std.proofs.Common.{ℕ, ◌%◌, ◌∙◌, ap₂, rules}
+use Rattle.std.proofs.Common.{ℕ, ◌%◌, ◌∙◌, ap₂}
 use Rattle.script.proofs.disc.subheader_of.Goals as goal
 
 pub returns : goal.returns

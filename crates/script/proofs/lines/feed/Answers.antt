@@ -1,12 +1,12 @@
 -- `script::lines::feed` meets its contract. The loop's invariant: the bench, the memory and the buffers stand for the progress of the lines so far
 -- (`Stands`), and `end` is the next line's end. Assumes nothing.
-use Rattle.std.proofs.Common.{drop, ◌≡◌, ◌+◌, ◌-◌, ◌<◌, ◌≤◌, length, refl, ◌∙◌, inl, inr, arith, rules, leb-false, leb-true}
+use Rattle.std.proofs.Common.{drop, ◌≡◌, ◌+◌, ◌-◌, ◌<◌, ◌≤◌, length, refl, ◌∙◌, inl, inr, arith}
 use borrow.Rule.Slice.PartMut.{put_mid}
 use Rattle.laws.proofs.Ends.{put_length}
 use Rattle.laws.proofs.Parts.{mid_rest}
 use Rattle.syntax.specs.Print.{room}
 use Rattle.script.specs.Feed.{begun, line_end}
-use Rattle.script.proofs.Feeding.{Stands, turned, settled, left_as}
+use Rattle.script.proofs.Feeding.{turned, settled, left_as}
 use Rattle.script.proofs.lines.feed.Goals as goal
 
 pub loop-end-init : goal.loop-end-init

@@ -1,6 +1,5 @@
 -- `script::lines::line_end` meets its contract. Assumes nothing.
-use Rattle.std.proofs.Common.{◌≡◌, ◌+◌, ◌<◌, ◌≤◌, suc, length, drop, get_or, sym, ap, ◌∙◌, arith, drop-cons, add-one}
-use Rattle.script.specs.Feed.{line_end}
+use Rattle.std.proofs.Common.{◌<◌, length, ◌∙◌, arith}
 use Rattle.script.proofs.Feeding.{line_end_here, line_end_behind, line_end_none}
 use Rattle.script.proofs.lines.line_end.Goals as goal
 

@@ -1,5 +1,4 @@
 -- `sector::Address::next` meets its contract. Assumes nothing.
-use borrow.Author.Rules.{rules}
 use Rattle.sector.proofs.Addresses.{next_frame, next_second, next_minute, next_last}
 use Rattle.sector.proofs.Address.next.Goals as goal
 

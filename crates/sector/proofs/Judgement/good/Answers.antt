@@ -1,7 +1,6 @@
 -- `sector::Judgement::good` meets its contract. Assumes nothing.
 use mathlib.Core.Path.{ap}
 use mathlib.Core.Bool.{Bool, not, ◌||◌}
-use borrow.Author.Rules.{rules}
 use Rattle.sector.proofs.Judgement.good.Goals as goal
 
 pub returns : goal.returns

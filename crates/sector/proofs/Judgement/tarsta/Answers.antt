@@ -3,7 +3,6 @@ use mathlib.Core.Path.{ap}
 use mathlib.Core.Bool.{Bool}
 use native.Mathlib.Omega.{arith}
 use Rattle.laws.specs.Numbers.{weight}
-use borrow.Author.Rules.{rules}
 use Rattle.sector.proofs.Judgement.tarsta.Goals as goal
 
 pub returns : goal.returns

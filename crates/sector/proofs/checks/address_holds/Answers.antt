@@ -1,7 +1,5 @@
 -- `sector::checks::address_holds` meets its contract. Assumes nothing.
-use borrow.Author.Tests.{not-true, not-false}
 use Rattle.sector.proofs.Addresses.{minute_fails, second_fails, frame_tells}
-use borrow.Author.Rules.{rules}
 use Rattle.sector.proofs.checks.address_holds.Goals as goal
 
 pub returns-then-not-is_bcd_of : goal.returns-then-not-is_bcd_of

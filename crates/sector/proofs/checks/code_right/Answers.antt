@@ -9,7 +9,6 @@ use Rattle.edc.specs.Edc.{edc}
 use Rattle.sector.specs.Sector.{low4}
 use Rattle.sector.specs.Judge.{code_right}
 use Rattle.sector.proofs.Frames.{covered_part}
-use borrow.Author.Rules.{rules}
 use Rattle.sector.proofs.checks.code_right.Goals as goal
 
 pub returns : goal.returns

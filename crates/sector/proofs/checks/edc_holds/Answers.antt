@@ -1,12 +1,10 @@
 -- `sector::checks::edc_holds` meets its contract. Assumes nothing.
 use mathlib.Core.Path.{sym, ap, ◌∙◌, subst}
-use mathlib.Core.Bool.{Bool, ◌||◌}
 use Rattle.laws.proofs.Tests.{or_first, or_right}
 use Rattle.sector.specs.declared.layout.Layout.{Layout}
-use Rattle.sector.specs.Layout.{kind_read, layout, layout_read, Fits}
+use Rattle.sector.specs.Layout.{layout, layout_read, Fits}
 use Rattle.sector.specs.Judge.{code_right, unwritten, edc_holds}
 use Rattle.sector.proofs.Layouts.{fits}
-use borrow.Author.Rules.{rules}
 use Rattle.sector.proofs.checks.edc_holds.Goals as goal
 
 pub unwritten-requires : goal.unwritten-requires

@@ -1,6 +1,5 @@
 -- `sector::checks::judgement_of` meets its contract. Assumes nothing.
 use Rattle.sector.proofs.Answers.{four_facts}
-use borrow.Author.Rules.{rules}
 use Rattle.sector.proofs.checks.judgement_of.Goals as goal
 
 pub returns : goal.returns

@@ -4,7 +4,6 @@ use mathlib.Core.Bool.{Bool, ◌&&◌, ◌||◌}
 use lib.Dec.{eqb}
 use lib.ListN.{get_or}
 use Rattle.sector.specs.Judge.{mode_holds}
-use borrow.Author.Rules.{rules}
 use Rattle.sector.proofs.checks.mode_holds.Goals as goal
 
 pub returns : goal.returns

@@ -3,7 +3,6 @@ use mathlib.Core.Path.{sym}
 use native.Mathlib.Omega.{arith}
 use lib.Seq.{length-take-le}
 use Rattle.sector.specs.Judge.{sync_holds}
-use borrow.Author.Rules.{rules}
 use Rattle.sector.proofs.checks.sync_holds.Goals as goal
 
 pub slice_bounds-equal-end : goal.slice_bounds-equal-end

@@ -6,7 +6,6 @@ use native.Mathlib.Omega.{arith}
 use lib.ListN.{take, drop, replicate}
 use Rattle.laws.specs.Same.{same}
 use Rattle.sector.specs.Judge.{unwritten}
-use borrow.Author.Rules.{rules}
 use Rattle.sector.proofs.checks.unwritten.Goals as goal
 
 pub returns : goal.returns

@@ -3,7 +3,6 @@ use mathlib.Core.Path.{ap₂}
 use mathlib.Core.List.{List, ◌++◌}
 use Prim.Native.Nat.{ℕ}
 use lib.ListN.{get_or, set, replicate}
-use borrow.Author.Rules.{rules}
 use Rattle.sector.proofs.frame.full_head.Goals as goal
 
 pub returns : goal.returns

@@ -3,7 +3,6 @@ use mathlib.Core.Path.{ap, ◌∙◌}
 use lib.ListN.{take}
 use Rattle.parity.specs.Parity.{with_parity}
 use Rattle.sector.proofs.Frames.{with_words, without_words}
-use borrow.Author.Rules.{rules}
 use Rattle.sector.proofs.frame.put.Goals as goal
 
 pub returns-then-layout : goal.returns-then-layout

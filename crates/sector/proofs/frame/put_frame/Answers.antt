@@ -1,12 +1,11 @@
 -- `sector::frame::put_frame` meets its contract. Assumes nothing.
 use mathlib.Core.Path.{ap, ◌∙◌}
-use mathlib.Core.List.{List, ◌++◌}
+use mathlib.Core.List.{◌++◌}
 use Prim.Native.Nat.{ℕ, ◌+◌, ◌-◌}
 use lib.ListN.{drop, length, replicate}
 use borrow.Rule.Slice.PartMut.{mid_of}
 use Rattle.sector.specs.Sector.{low4}
 use Rattle.sector.proofs.Frames.{made}
-use borrow.Author.Rules.{rules}
 use Rattle.sector.proofs.frame.put_frame.Goals as goal
 
 pub returns : goal.returns

@@ -1,14 +1,11 @@
 -- `sector::frame::put_head` meets its contract. Assumes nothing.
-use mathlib.Core.Path.{◌≡◌, sym, ap, ◌∙◌}
+use mathlib.Core.Path.{sym, ap, ◌∙◌}
 use native.Mathlib.Omega.{arith}
-use lib.ListN.{length, take}
+use lib.ListN.{length}
 use lib.Seq.{length-take-le}
 use Rattle.sector.proofs.Layouts.{user_24}
 use Rattle.sector.proofs.Frames.{head_16, head_24}
-use borrow.Author.Rules.{rules}
 use Rattle.sector.proofs.frame.put_head.Goals as goal
-
-
 
 pub returns-then-layout-eq16 : goal.returns-then-layout-eq16
 returns-then-layout-eq16 c =

@@ -6,7 +6,6 @@ use Prim.Native.Nat.{ℕ, ◌+◌}
 use lib.ListN.{get_or, replicate}
 use Rattle.sector.specs.Sector.{low4}
 use Rattle.sector.proofs.Frames.{tail_copied}
-use borrow.Author.Rules.{rules}
 use Rattle.sector.proofs.frame.put_tail.Goals as goal
 
 pub returns-then-zeros-eq8 : goal.returns-then-zeros-eq8

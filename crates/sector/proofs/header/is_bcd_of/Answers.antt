@@ -1,6 +1,5 @@
 -- `sector::header::is_bcd_of` meets its contract. Assumes nothing.
 use Rattle.sector.proofs.Addresses.{no_digit, digits_make}
-use borrow.Author.Rules.{rules}
 use Rattle.sector.proofs.header.is_bcd_of.Goals as goal
 
 pub returns-then-ones-gt9 : goal.returns-then-ones-gt9

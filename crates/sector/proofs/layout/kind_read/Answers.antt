@@ -3,7 +3,6 @@ use mathlib.Core.Path.{sym, ◌∙◌}
 use borrow.Author.Tests.{eq-eqb, ne_eqb}
 use Rattle.laws.proofs.Choice.{if_true, if_false}
 use Rattle.sector.specs.Layout.{kind_read}
-use borrow.Author.Rules.{rules}
 use Rattle.sector.proofs.layout.kind_read.Goals as goal
 
 pub returns-then-sector-ne2 : goal.returns-then-sector-ne2

@@ -1,6 +1,5 @@
 -- `syntax::decimal::field` meets its contract. Assumes nothing.
 use Rattle.syntax.proofs.Written.{then}
-use borrow.Author.Rules.{rules}
 use Rattle.syntax.proofs.decimal.field.Goals as goal
 
 pub returns : goal.returns

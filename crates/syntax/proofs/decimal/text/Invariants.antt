@@ -1,12 +1,9 @@
 -- `syntax::decimal::text` meets its contract. The loop's invariant: the first `i` bytes of the text are written.
 -- Assumes nothing.
-use mathlib.Core.Path.{◌≡◌, refl, ap, ◌∙◌}
-use mathlib.Core.List.{List}
-use Prim.Native.Nat.{ℕ, ◌+◌, ◌-◌, ◌≤◌}
-use native.Mathlib.Omega.{arith}
-use lib.ListN.{length, take, set, get_or}
-use lib.Seq.{sets, length-sets, take-length}
-use Rattle.laws.proofs.Sets.{sets_take}
+use mathlib.Core.Path.{◌≡◌}
+use Prim.Native.Nat.{◌-◌, ◌≤◌}
+use lib.ListN.{length, take}
+use lib.Seq.{sets}
 use Rattle.syntax.proofs.decimal.text.Given as goal
 
 abbrev pub invariant-loop-i : goal.invariant-loop-i

@@ -1,13 +1,11 @@
 -- `syntax::form::form` meets its contract. The loop's invariant: what is written, and behind it the form of what is left, is the line's form.
 -- Assumes nothing.
-use mathlib.Core.Path.{◌≡◌, refl, sym, ◌∙◌}
-use mathlib.Core.List.{◌++◌, append-nil}
-use Prim.Native.Nat.{◌<◌, ◌≤◌, ◌-◌}
+use mathlib.Core.Path.{refl, sym, ◌∙◌}
+use mathlib.Core.List.{append-nil}
+use Prim.Native.Nat.{◌<◌, ◌≤◌}
 use native.Mathlib.Omega.{arith}
-use lib.ListN.{length, take, drop, length-set}
-use Rattle.syntax.specs.Grammar.{form}
+use lib.ListN.{length, take, length-set}
 use Rattle.syntax.proofs.Reading.{grows_le, form_step, form_end}
-use borrow.Author.Rules.{rules}
 use Rattle.syntax.proofs.form.form.Goals as goal
 
 pub loop-i-init : goal.loop-i-init

@@ -1,13 +1,10 @@
 -- `syntax::form::form` meets its contract. The loop's invariant: what is written, and behind it the form of what is left, is the line's form.
 -- Assumes nothing.
-use mathlib.Core.Path.{◌≡◌, refl, sym, ◌∙◌}
-use mathlib.Core.List.{◌++◌, append-nil}
-use Prim.Native.Nat.{◌<◌, ◌≤◌, ◌-◌}
-use native.Mathlib.Omega.{arith}
-use lib.ListN.{length, take, drop, length-set}
+use mathlib.Core.Path.{◌≡◌}
+use mathlib.Core.List.{◌++◌}
+use Prim.Native.Nat.{◌≤◌, ◌-◌}
+use lib.ListN.{length, take, drop}
 use Rattle.syntax.specs.Grammar.{form}
-use Rattle.syntax.proofs.Reading.{grows_le, form_step, form_end}
-use borrow.Author.Rules.{rules}
 use Rattle.syntax.proofs.form.form.Given as goal
 
 abbrev pub invariant-loop-i : goal.invariant-loop-i

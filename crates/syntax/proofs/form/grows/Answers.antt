@@ -3,7 +3,6 @@ use mathlib.Core.Path.{sym, ap, ◌∙◌}
 use mathlib.Core.Bool.{Bool, ◌&&◌}
 use Rattle.laws.proofs.Choice.{if_true, if_false}
 use Rattle.syntax.specs.Grammar.{grows}
-use borrow.Author.Rules.{rules}
 use Rattle.syntax.proofs.form.grows.Goals as goal
 
 pub returns-then-inside-digit : goal.returns-then-inside-digit

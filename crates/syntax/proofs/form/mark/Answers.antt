@@ -2,7 +2,6 @@
 use mathlib.Core.Path.{sym, ◌∙◌}
 use Rattle.laws.proofs.Choice.{if_true, if_false}
 use Rattle.syntax.specs.Grammar.{mark}
-use borrow.Author.Rules.{rules}
 use Rattle.syntax.proofs.form.mark.Goals as goal
 
 pub returns-then-digit : goal.returns-then-digit

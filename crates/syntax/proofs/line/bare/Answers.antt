@@ -2,7 +2,6 @@
 use mathlib.Core.Path.{sym, ◌∙◌}
 use Rattle.laws.proofs.Choice.{if_true, if_false}
 use Rattle.syntax.specs.Grammar.{bare}
-use borrow.Author.Rules.{rules}
 use Rattle.syntax.proofs.line.bare.Goals as goal
 
 pub returns-then-equal : goal.returns-then-equal

@@ -2,7 +2,6 @@
 use mathlib.Core.Path.{sym, ◌∙◌}
 use Rattle.laws.proofs.Choice.{if_true, if_false}
 use Rattle.syntax.specs.Grammar.{disc}
-use borrow.Author.Rules.{rules}
 use Rattle.syntax.proofs.line.disc.Goals as goal
 
 pub returns-then-equal : goal.returns-then-equal

@@ -2,7 +2,6 @@
 use mathlib.Core.Path.{sym, ◌∙◌}
 use Rattle.laws.proofs.Choice.{if_true, if_false}
 use Rattle.syntax.specs.Grammar.{named}
-use borrow.Author.Rules.{rules}
 use Rattle.syntax.proofs.line.named.Goals as goal
 
 pub returns-then-equal : goal.returns-then-equal

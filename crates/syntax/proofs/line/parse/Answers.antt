@@ -6,7 +6,6 @@ use borrow.Author.Tests.{le-ltb, lt-ltb}
 use Rattle.laws.proofs.Choice.{if_true, if_false}
 use Rattle.syntax.specs.Grammar.{parse, named}
 use Rattle.syntax.specs.declared.numbers.Numbers.{Numbers}
-use borrow.Author.Rules.{rules}
 use Rattle.syntax.proofs.line.parse.Goals as goal
 
 pub returns-then-line-gt80 : goal.returns-then-line-gt80

@@ -2,7 +2,6 @@
 use mathlib.Core.Path.{sym, ◌∙◌}
 use Rattle.laws.proofs.Choice.{if_true, if_false}
 use Rattle.syntax.specs.Grammar.{several}
-use borrow.Author.Rules.{rules}
 use Rattle.syntax.proofs.line.several.Goals as goal
 
 pub returns-then-equal : goal.returns-then-equal

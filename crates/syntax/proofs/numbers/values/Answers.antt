@@ -1,12 +1,10 @@
 -- `syntax::numbers::values` meets its contract. The loop's invariant: the numbers so far, carried on over what is left, are the line's.
 -- Assumes nothing.
-use mathlib.Core.Path.{◌≡◌, sym, ◌∙◌}
-use Prim.Native.Nat.{◌<◌, ◌≤◌, ◌-◌}
+use mathlib.Core.Path.{sym, ◌∙◌}
+use Prim.Native.Nat.{◌<◌, ◌≤◌}
 use native.Mathlib.Omega.{arith}
-use lib.ListN.{length, drop}
-use Rattle.syntax.specs.Grammar.{onward}
+use lib.ListN.{length}
 use Rattle.syntax.proofs.Reading.{onward_step, onward_end}
-use borrow.Author.Rules.{rules}
 use Rattle.syntax.proofs.numbers.values.Goals as goal
 
 pub loop-i-preserved : goal.loop-i-preserved

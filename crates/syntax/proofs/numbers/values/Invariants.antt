@@ -1,12 +1,9 @@
 -- `syntax::numbers::values` meets its contract. The loop's invariant: the numbers so far, carried on over what is left, are the line's.
 -- Assumes nothing.
-use mathlib.Core.Path.{◌≡◌, sym, ◌∙◌}
-use Prim.Native.Nat.{◌<◌, ◌≤◌, ◌-◌}
-use native.Mathlib.Omega.{arith}
+use mathlib.Core.Path.{◌≡◌}
+use Prim.Native.Nat.{◌≤◌, ◌-◌}
 use lib.ListN.{length, drop}
 use Rattle.syntax.specs.Grammar.{onward}
-use Rattle.syntax.proofs.Reading.{onward_step, onward_end}
-use borrow.Author.Rules.{rules}
 use Rattle.syntax.proofs.numbers.values.Given as goal
 
 abbrev pub invariant-loop-i : goal.invariant-loop-i

@@ -2,9 +2,8 @@
 use native.Mathlib.Omega.{arith}
 use lib.ListN.{take}
 use Rattle.syntax.proofs.Written.{none, then}
-use Rattle.syntax.proofs.Rows.{Within, within, within_take, length_texts}
+use Rattle.syntax.proofs.Rows.{within, within_take, length_texts}
 use Rattle.syntax.specs.Print.{rows}
-use borrow.Author.Rules.{rules}
 use Rattle.syntax.proofs.print.call_text.Goals as goal
 
 pub field-lines-requires : goal.field-lines-requires

@@ -4,9 +4,8 @@ use Prim.Native.Nat.{ℕ}
 use native.Mathlib.Omega.{arith}
 use lib.ListN.{length, drop}
 use Rattle.syntax.proofs.Written.{none, then}
-use Rattle.syntax.proofs.Rows.{Within, within, within_drop, length_texts}
+use Rattle.syntax.proofs.Rows.{within, within_drop, length_texts}
 use Rattle.syntax.specs.Print.{rows, decimal}
-use borrow.Author.Rules.{rules}
 use Rattle.syntax.proofs.print.chip_text.Goals as goal
 
 pub field-tcc-requires : goal.field-tcc-requires

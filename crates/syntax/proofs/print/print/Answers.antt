@@ -5,7 +5,6 @@ use lib.ListN.{take, drop}
 use Rattle.syntax.proofs.Written.{then, at_front}
 use Rattle.syntax.proofs.Rows.{texts_append}
 use Rattle.syntax.specs.Print.{rows, printed}
-use borrow.Author.Rules.{rules}
 use Rattle.syntax.proofs.print.print.Goals as goal
 
 pub returns : goal.returns

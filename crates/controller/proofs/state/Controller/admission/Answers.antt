@@ -1,7 +1,6 @@
 -- `controller::Controller::admission` meets its contract. Assumes nothing.
 use mathlib.Core.Path.{sym}
 use Rattle.controller.specs.Decoder.{admission}
-use borrow.Author.Rules.{rules}
 use Rattle.controller.proofs.state.Controller.admission.Goals as goal
 
 pub returns-then-not-self : goal.returns-then-not-self

@@ -1,6 +1,5 @@
 -- `controller::Controller::begun` meets its contract. Assumes nothing.
 use native.Mathlib.Omega.{arith}
-use borrow.Author.Rules.{rules}
 use Rattle.controller.proofs.state.Controller.begun.Goals as goal
 
 pub overflow_cast-blocks : goal.overflow_cast-blocks

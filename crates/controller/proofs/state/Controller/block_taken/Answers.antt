@@ -1,6 +1,5 @@
 -- The four counts taken down by `less` are the definition's.
 use Rattle.controller.specs.Fields.{◌▹◌, tcc≔, bufc≔, ttc≔, left≔, position≔}
-use borrow.Author.Rules.{rules}
 use Rattle.controller.proofs.state.Controller.block_taken.Goals as goal
 
 pub returns : goal.returns

@@ -3,7 +3,6 @@ use mathlib.Core.Path.{sym}
 use native.Mathlib.Omega.{arith}
 use Rattle.laws.proofs.Choice.{if_true, if_false}
 use Rattle.controller.specs.Transfer.{byte_count}
-use borrow.Author.Rules.{rules}
 use Rattle.controller.proofs.state.Controller.byte_count.Goals as goal
 
 pub returns-then-not-self : goal.returns-then-not-self

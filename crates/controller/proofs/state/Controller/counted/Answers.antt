@@ -1,7 +1,6 @@
 -- `controller::Controller::counted` meets its contract. Assumes nothing.
 use mathlib.Core.Path.{◌∙◌, sym}
 use Rattle.controller.specs.Decoder.{counted}
-use borrow.Author.Rules.{rules}
 use Rattle.controller.proofs.state.Controller.counted.Goals as goal
 
 pub returns-then-good : goal.returns-then-good

@@ -3,7 +3,6 @@ use Rattle.laws.proofs.Choice.{if_false, if_true}
 use mathlib.Core.Path.{◌∙◌, sym, ap}
 use Rattle.controller.specs.Host.{ended}
 use Rattle.controller.specs.Transfer.{completed}
-use borrow.Author.Rules.{rules}
 use Rattle.controller.proofs.state.Controller.ended.Goals as goal
 
 pub returns-then-self : goal.returns-then-self

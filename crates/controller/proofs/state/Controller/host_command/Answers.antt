@@ -5,7 +5,6 @@ use borrow.Author.Tests.{le-ltb, lt-ltb}
 use Rattle.controller.specs.Host.{host_command}
 use mathlib.Core.Bool.{Bool, ◌||◌}
 use Rattle.controller.specs.Step.{done}
-use borrow.Author.Rules.{rules}
 use Rattle.controller.proofs.state.Controller.host_command.Goals as goal
 
 pub returns-then-code-gt255 : goal.returns-then-code-gt255

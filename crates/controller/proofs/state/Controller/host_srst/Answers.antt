@@ -1,7 +1,6 @@
 -- `controller::Controller::host_srst` meets its contract. Assumes nothing.
 use mathlib.Core.Path.{◌∙◌, ap}
 use Rattle.controller.specs.Step.{done}
-use borrow.Author.Rules.{rules}
 use Rattle.controller.proofs.state.Controller.host_srst.Goals as goal
 
 pub returns : goal.returns

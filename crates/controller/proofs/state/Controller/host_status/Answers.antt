@@ -5,7 +5,6 @@ use mathlib.Core.Bool.{false}
 use Rattle.controller.specs.Fields.{◌▹◌, hirq≔}
 use Rattle.controller.specs.Step.{replied}
 use Rattle.controller.specs.declared.step.Event.TheVariants.{Stay}
-use borrow.Author.Rules.{rules}
 use Rattle.controller.proofs.state.Controller.host_status.Goals as goal
 
 pub returns : goal.returns

@@ -9,7 +9,6 @@ use Rattle.controller.specs.Fields.{◌▹◌, running≔}
 use Rattle.controller.specs.Step.{replied}
 use Rattle.controller.specs.declared.step.Event.TheVariants.{Advance}
 use Rattle.controller.specs.declared.state.Controller.{Controller}
-use borrow.Author.Rules.{rules}
 use Rattle.controller.proofs.state.Controller.host_word.Goals as goal
 
 pub returns-then-not-self : goal.returns-then-not-self

@@ -1,5 +1,4 @@
 -- `controller::Controller::initial` meets its contract. Assumes nothing.
-use borrow.Author.Rules.{rules}
 use Rattle.controller.proofs.state.Controller.initial.Goals as goal
 
 pub returns : goal.returns

@@ -2,7 +2,6 @@
 use native.Mathlib.Omega.{arith}
 use mathlib.Core.Path.{◌∙◌}
 use borrow.Author.Tests.{eq-eqb, ne_eqb}
-use borrow.Author.Rules.{rules}
 use Rattle.controller.proofs.state.Controller.limit.Goals as goal
 
 pub returns-then-self-eq0 : goal.returns-then-self-eq0

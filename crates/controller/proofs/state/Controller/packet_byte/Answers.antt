@@ -5,7 +5,6 @@ use Rattle.laws.proofs.Choice.{if_false, if_true}
 use mathlib.Core.Path.{◌∙◌, sym, ap}
 use borrow.Author.Tests.{le-ltb, lt-ltb}
 use Rattle.controller.specs.Named.{packet_byte}
-use borrow.Author.Rules.{rules}
 use Rattle.controller.proofs.state.Controller.packet_byte.Goals as goal
 
 pub returns-then-index-gt11 : goal.returns-then-index-gt11

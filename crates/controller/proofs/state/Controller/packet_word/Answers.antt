@@ -7,7 +7,6 @@ use Rattle.controller.specs.Fields.{◌▹◌, received≔, receiving≔, fpkt�
 use mathlib.Core.Bool.{true, false}
 use Rattle.controller.specs.Step.{done}
 use Rattle.controller.specs.declared.state.Controller.{Controller}
-use borrow.Author.Rules.{rules}
 use Rattle.controller.proofs.state.Controller.packet_word.Goals as goal
 
 pub returns-then-not-self : goal.returns-then-not-self

@@ -1,6 +1,5 @@
 -- `controller::Controller::reset` meets its contract. Assumes nothing.
 use mathlib.Core.Path.{◌∙◌, sym}
-use borrow.Author.Rules.{rules}
 use Rattle.controller.proofs.state.Controller.reset.Goals as goal
 
 pub returns : goal.returns

@@ -3,7 +3,6 @@ use mathlib.Core.Path.{◌∙◌, sym}
 use Rattle.laws.proofs.Choice.{if_false, if_true}
 use borrow.Author.Tests.{le-leb, lt-leb}
 use Rattle.controller.specs.Named.{set_block}
-use borrow.Author.Rules.{rules}
 use Rattle.controller.proofs.state.Controller.set_block.Goals as goal
 
 pub returns-then-n-block : goal.returns-then-n-block

@@ -1,7 +1,6 @@
 -- `controller::Controller::set_expected` meets its contract. Assumes nothing.
 use mathlib.Core.Path.{◌∙◌, sym}
 use Rattle.controller.specs.Named.{set_expected}
-use borrow.Author.Rules.{rules}
 use Rattle.controller.proofs.state.Controller.set_expected.Goals as goal
 
 pub returns-then-not-valid : goal.returns-then-not-valid

@@ -1,7 +1,6 @@
 -- `controller::Controller::set_window` meets its contract. Assumes nothing.
 use mathlib.Core.Path.{◌∙◌, sym}
 use Rattle.controller.specs.Named.{set_window}
-use borrow.Author.Rules.{rules}
 use Rattle.controller.proofs.state.Controller.set_window.Goals as goal
 
 pub returns-then-not-window_fits : goal.returns-then-not-window_fits

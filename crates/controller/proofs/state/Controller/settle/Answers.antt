@@ -5,7 +5,6 @@ use mathlib.Core.Bool.{Bool, ◌&&◌, not}
 use lib.Dec.{eqb}
 use Rattle.controller.specs.Transfer.{settled}
 use Rattle.controller.specs.declared.step.Step.{Step}
-use borrow.Author.Rules.{rules}
 use Rattle.controller.proofs.state.Controller.settle.Goals as goal
 
 pub returns-then-self-engaged : goal.returns-then-self-engaged

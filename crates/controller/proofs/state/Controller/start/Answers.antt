@@ -4,12 +4,11 @@ use mathlib.Core.Bool.{false, ◌||◌, not}
 use Prim.Native.Nat.{ℕ, ◌+◌, ◌-◌, ◌*◌, ◌<◌}
 use native.Mathlib.Omega.{arith}
 use lib.Dec.{eqb, ltb}
-use borrow.Author.Tests.{eqb-false, not-false}
-use borrow.Author.Rules.{rules}
+use borrow.Author.Tests.{eqb-false}
 use Rattle.laws.proofs.Choice.{if_false, if_true}
 use Rattle.laws.proofs.Tests.{or_false}
 use Rattle.controller.specs.declared.state.Controller.{Controller}
-use Rattle.controller.specs.Transfer.{start_switches, start_blocks, blocks_lacking, start, byte_count, begun}
+use Rattle.controller.specs.Transfer.{start_blocks, blocks_lacking, start, byte_count, begun}
 use Rattle.controller.specs.Fields.{◌▹◌, mbc≔}
 use Rattle.controller.specs.Step.{done}
 use Rattle.controller.proofs.Starts.{windowed, fits}

@@ -2,7 +2,6 @@
 use mathlib.Core.Path.{◌∙◌, ap}
 use Prim.Native.Nat.{ℕ, min}
 use native.Mathlib.Omega.{arith}
-use borrow.Author.Rules.{rules}
 use Rattle.controller.specs.Transfer.{most_blocks}
 use Rattle.controller.proofs.state.Controller.start_blocks.Goals as goal
 

@@ -3,7 +3,6 @@ use Rattle.laws.proofs.Choice.{if_false, if_true}
 use mathlib.Core.Path.{◌∙◌, sym}
 use borrow.Author.Tests.{le-ltb, lt-ltb}
 use Rattle.controller.specs.Write.{write_acctl}
-use borrow.Author.Rules.{rules}
 use Rattle.controller.proofs.state.Controller.write_acctl.Goals as goal
 
 pub returns-then-value-gt255 : goal.returns-then-value-gt255

@@ -2,7 +2,6 @@
 use mathlib.Core.Path.{◌∙◌}
 use borrow.Author.Tests.{eq-eqb, ne_eqb}
 use Rattle.controller.specs.Write.{write_apksta}
-use borrow.Author.Rules.{rules}
 use Rattle.controller.proofs.state.Controller.write_apksta.Goals as goal
 
 pub returns-then-value : goal.returns-then-value

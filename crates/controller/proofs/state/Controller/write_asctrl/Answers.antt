@@ -3,7 +3,6 @@ use Rattle.laws.proofs.Choice.{if_false, if_true}
 use mathlib.Core.Bool.{not}
 use mathlib.Core.Path.{ap, ◌∙◌, sym}
 use Rattle.controller.specs.Write.{write_asctrl}
-use borrow.Author.Rules.{rules}
 use Rattle.controller.proofs.state.Controller.write_asctrl.Goals as goal
 
 pub returns-then-not-value-named : goal.returns-then-not-value-named

@@ -5,7 +5,6 @@ use mathlib.Core.Bool.{not}
 use mathlib.Core.Path.{◌∙◌, sym, ap}
 use borrow.Author.Tests.{eq-eqb, ne_eqb}
 use Rattle.controller.specs.Write.{write_astrg}
-use borrow.Author.Rules.{rules}
 use Rattle.controller.proofs.state.Controller.write_astrg.Goals as goal
 
 pub returns-then-not-value : goal.returns-then-not-value

@@ -3,7 +3,6 @@ use Rattle.laws.proofs.Choice.{if_false, if_true, not_of_false, not_of_true}
 use mathlib.Core.Path.{◌∙◌, sym}
 use borrow.Author.Tests.{eq-eqb, ne_eqb}
 use Rattle.controller.specs.Write.{write_atsta}
-use borrow.Author.Rules.{rules}
 use Rattle.controller.proofs.state.Controller.write_atsta.Goals as goal
 
 pub returns-then-value-named : goal.returns-then-value-named

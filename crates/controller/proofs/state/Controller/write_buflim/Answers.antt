@@ -3,7 +3,6 @@ use mathlib.Core.Path.{◌∙◌, sym}
 use Rattle.laws.proofs.Choice.{if_false, if_true}
 use borrow.Author.Tests.{lt-ltb, le-ltb}
 use Rattle.controller.specs.Write.{write_buflim}
-use borrow.Author.Rules.{rules}
 use Rattle.controller.proofs.state.Controller.write_buflim.Goals as goal
 
 pub returns-then-n-value : goal.returns-then-n-value

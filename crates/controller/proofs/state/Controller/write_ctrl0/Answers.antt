@@ -2,7 +2,6 @@
 use mathlib.Core.Path.{◌∙◌}
 use borrow.Author.Tests.{eq-eqb, ne_eqb}
 use Rattle.controller.specs.Write.{write_ctrl0}
-use borrow.Author.Rules.{rules}
 use Rattle.controller.proofs.state.Controller.write_ctrl0.Goals as goal
 
 pub returns-then-value-eq0 : goal.returns-then-value-eq0

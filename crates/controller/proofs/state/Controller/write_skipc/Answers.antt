@@ -7,7 +7,6 @@ use Rattle.laws.proofs.Choice.{if_false, if_true}
 use mathlib.Core.Path.{◌∙◌, sym, ap}
 use borrow.Author.Tests.{le-ltb, lt-ltb}
 use Rattle.controller.specs.Write.{write_skipc}
-use borrow.Author.Rules.{rules}
 use Rattle.controller.proofs.state.Controller.write_skipc.Goals as goal
 
 pub returns-then-value-gt255 : goal.returns-then-value-gt255

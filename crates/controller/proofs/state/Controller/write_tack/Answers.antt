@@ -2,7 +2,6 @@
 use mathlib.Core.Path.{◌∙◌}
 use borrow.Author.Tests.{le-leb, le-ltb, lt-leb, lt-ltb}
 use Rattle.controller.specs.Write.{write_tack}
-use borrow.Author.Rules.{rules}
 use Rattle.controller.proofs.state.Controller.write_tack.Goals as goal
 
 pub returns-then-value-gt255 : goal.returns-then-value-gt255

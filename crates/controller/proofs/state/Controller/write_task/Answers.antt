@@ -6,7 +6,6 @@ use Rattle.controller.specs.Write.{write_task}
 use Rattle.controller.specs.Fields.{◌▹◌, task≔}
 use Rattle.controller.specs.Step.{done}
 use Rattle.controller.specs.declared.state.Task.{Task}
-use borrow.Author.Rules.{rules}
 use Rattle.controller.proofs.state.Controller.write_task.Goals as goal
 
 pub returns-then-value-gt255 : goal.returns-then-value-gt255

@@ -4,7 +4,6 @@ use mathlib.Core.Path.{sym}
 use mathlib.Core.Path.{◌∙◌}
 use borrow.Author.Tests.{le-leb, le-ltb, lt-leb, lt-ltb}
 use Rattle.controller.specs.Write.{write_tcc}
-use borrow.Author.Rules.{rules}
 use Rattle.controller.proofs.state.Controller.write_tcc.Goals as goal
 
 pub returns-then-value-gt255 : goal.returns-then-value-gt255

@@ -4,7 +4,6 @@ use Rattle.laws.proofs.Choice.{if_false, if_true}
 use borrow.Author.Tests.{eq-eqb, ne_eqb}
 use Rattle.controller.specs.declared.state.Controller.{Controller}
 use Rattle.controller.specs.Transfer.{concluded}
-use borrow.Author.Rules.{rules}
 use Rattle.controller.proofs.step.Step.conclude.Goals as goal
 
 pub returns-then-reply-eq0 : goal.returns-then-reply-eq0

@@ -1,7 +1,6 @@
 -- `syntax::numbers::Numbers::longer` meets its contract. Assumes nothing.
 use borrow.Author.Tests.{lt-ltb, le-ltb}
 use Rattle.syntax.specs.Grammar.{longer}
-use borrow.Author.Rules.{rules}
 use Rattle.syntax.proofs.numbers.Numbers.longer.Goals as goal
 
 pub returns-then-value-gt65535 : goal.returns-then-value-gt65535

@@ -3,7 +3,6 @@ use mathlib.Core.Bool.{not}
 use mathlib.Core.Path.{sym, ap}
 use Rattle.syntax.specs.Grammar.{next}
 use Rattle.syntax.proofs.Reading.{digit_low}
-use borrow.Author.Rules.{rules}
 use Rattle.syntax.proofs.numbers.Numbers.next.Goals as goal
 
 pub returns-then-not-digit : goal.returns-then-not-digit
@@ -16,7 +15,6 @@ longer-requires c = digit_low _ _ c.digit.ensures (ap not c.if-not-digit.false)
 pub returns-then-self : goal.returns-then-self
 unfolding next
 returns-then-self c = simp (sym c.longer.ensures, c.if-self.true, c.if-not-digit.false, sym c.digit.ensures)
-
 
 pub returns : goal.returns
 unfolding next

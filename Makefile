@@ -30,8 +30,9 @@ help:
 lib:
 	@command -v rt >/dev/null || { echo 'make lib: the Rattle kit is missing: there is no rt on the PATH' >&2; exit 1; }
 	rm -f $(MADE)
-	rt staticlib exports
-	cp target/staticlib/libexports.a $(MADE)
+	cd crates/exports && rt lib
+	@mkdir -p $(dir $(MADE))
+	cp crates/exports/out/libexports.a $(MADE)
 
 # Installing builds nothing: it may run as another user, without the kit.
 install: $(LIB)

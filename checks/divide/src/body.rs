@@ -45,6 +45,8 @@ pub struct Body {
     pub divisions: Vec<Division>,
     pub calls: Vec<Call>,
     pub names: BTreeSet<String>,
+    /// Those of the names that stand behind a `::`.
+    pub ends_of_paths: BTreeSet<String>,
 }
 
 impl Body {
@@ -54,7 +56,10 @@ impl Body {
             body.divisions.extend(division(tokens, place));
             body.calls.extend(call(tokens, place));
             body.names.extend(plain_name(tokens, place));
+            body.ends_of_paths.extend(plain_name(tokens, place).filter(|_| is_behind(tokens, place, "::")));
         }
+        // A name that the code gives to a value itself is that value's.
+        body.names.retain(|name| !(0..tokens.len()).any(|place| is_bound(tokens, place, name)));
         body
     }
 }
@@ -147,11 +152,18 @@ fn path_before(tokens: &[Token], name: usize) -> Vec<String> {
     path
 }
 
-/// A name that is neither called nor that of a field.
+/// A name that is neither called nor that of a field; with a colon behind it is a field's too, or that of a local value.
 fn plain_name(tokens: &[Token], place: usize) -> Option<String> {
     let token = tokens[place];
-    let is_plain = token.kind == Kind::Name && text(tokens, place + 1) != "(" && !is_behind(tokens, place, ".");
+    let is_plain =
+        token.kind == Kind::Name && !["(", ":"].contains(&text(tokens, place + 1)) && !is_behind(tokens, place, ".");
     is_plain.then(|| token.text.to_string())
+}
+
+/// Whether the name stands there behind `let` or `let mut`.
+fn is_bound(tokens: &[Token], place: usize, name: &str) -> bool {
+    let mutable = usize::from(text(tokens, place + 1) == "mut");
+    text(tokens, place) == "let" && text(tokens, place + 1 + mutable) == name
 }
 
 fn is_behind(tokens: &[Token], place: usize, sign: &str) -> bool {
@@ -215,7 +227,8 @@ mod tests {
 
     #[test]
     fn names_without_fields_and_calls() {
-        let names: Vec<_> = body("SIZE + a.COUNT + f(frame::SYNC)").names.into_iter().collect();
-        assert_eq!(names, ["SIZE", "SYNC", "a", "frame"]);
+        let names: Vec<_> =
+            body("let mut b = 1; let a = b; SIZE + a.COUNT + f(frame::SYNC); A { c: a }").names.into_iter().collect();
+        assert_eq!(names, ["A", "SIZE", "SYNC", "frame", "let", "mut"]);
     }
 }

@@ -10,13 +10,14 @@ pub struct Crates {
 }
 
 impl Crates {
-    /// Lines are `NAME: DEP DEP ..`, and a comment begins with `#`.
+    /// Lines are `NAME: DEP DEP ..`, a comment begins with `#`, and behind a name may stand what is made of the crate, as `staticlib`.
     pub fn read(text: &str) -> Result<Crates, String> {
         let mut dependencies = BTreeMap::new();
         for line in text.lines().map(without_comment).filter(|line| !line.is_empty()) {
-            let (name, rest) = line.split_once(':').ok_or(format!("crates.txt: `{line}` has no colon"))?;
+            let (crate_text, rest) = line.split_once(':').ok_or(format!("crates.txt: `{line}` has no colon"))?;
+            let name = crate_text.split_whitespace().next().ok_or(format!("crates.txt: `{line}` has no name"))?;
             let listed = rest.split_whitespace().map(str::to_string).collect();
-            if dependencies.insert(name.trim().to_string(), listed).is_some() {
+            if dependencies.insert(name.to_string(), listed).is_some() {
                 return Err(format!("crates.txt: {name} is there twice"));
             }
         }
@@ -59,7 +60,8 @@ fn without_comment(line: &str) -> &str {
 mod tests {
     use super::*;
 
-    const LIST: &str = "# laws first\nlaws:\nslices: laws\nsector: slices bytes # and more\nexports: sector\n";
+    const LIST: &str =
+        "# laws first\nlaws:\nslices: laws\nsector: slices bytes # and more\nexports staticlib: sector\n";
 
     #[test]
     fn a_scope_goes_through_dependencies() {
@@ -79,6 +81,7 @@ mod tests {
     #[test]
     fn a_line_that_is_none_and_a_crate_that_is_there_twice() {
         assert!(Crates::read("laws\n").is_err());
+        assert!(Crates::read(": laws\n").is_err());
         assert!(Crates::read("laws:\nlaws: bytes\n").is_err());
     }
 }

@@ -78,6 +78,7 @@ impl Source {
     pub fn read(file: &str, text: &str) -> Result<Source, String> {
         let source = Source { place: Place::of(file)?, items: Vec::new(), imports: Vec::new() };
         let mut parser = Parser { reader: Reader::new(file, text)?, source };
+        parser.file_attributes()?;
         while !parser.reader.is_at_end() {
             parser.item(None)?;
         }
@@ -91,6 +92,14 @@ struct Parser<'t> {
 }
 
 impl<'t> Parser<'t> {
+    /// Those of the whole file, before its first item.
+    fn file_attributes(&mut self) -> Result<(), String> {
+        while self.reader.skip_both("#", "!") {
+            self.reader.group()?;
+        }
+        Ok(())
+    }
+
     fn item(&mut self, owner: Option<&str>) -> Result<(), String> {
         let is_exported = self.attributes()?;
         let is_public = self.visibility()?;
@@ -154,6 +163,7 @@ impl<'t> Parser<'t> {
 
     fn clause(&mut self) -> Result<(), String> {
         self.reader.step();
+        self.reader.skip("*");
         if self.reader.is_at_name() {
             self.reader.step();
         }
@@ -270,13 +280,15 @@ mod tests {
     #[test]
     fn functions_with_contracts() {
         let text = "
+            #![tactic(auto)]
             ghost use Prim.Native.Nat.{_/_, _%_};
             use super::Address;
             // a / b
             impl Address {
                 pub fn next(self, a: [u8; 3]) -> [u8; 4]
                     requires bound { ⌜ { self / 10 } % 3 ≡ 'a ⌝ }
-                    ensures { λ r. ⌜ r ≡ f(self) ⌝ }
+                    ensures* told { λ r. ⌜ r ≡ f(self) ⌝ }
+                    ensures { result ≡ f(self) }
                 { g(b\"/\") }
             }
             #[no_mangle]
@@ -311,6 +323,7 @@ mod tests {
     fn what_is_not_known_is_an_error() {
         assert!(trouble("\ntype A = u8;").starts_with("crates/sector/src/header.rt:2: `type`"));
         assert!(trouble("use a::b as c;").contains("is not followed"));
+        assert!(trouble("fn f() {}\n#![tactic(auto)]").contains("`!` stands where a bracket must be"));
         assert!(trouble("use a::*;").contains("is not followed"));
         assert!(trouble("mod a { fn f() {} }").contains("`{` stands where `;` must be"));
         assert!(trouble("impl A for B {}").contains("`for`"));

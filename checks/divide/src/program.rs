@@ -66,15 +66,16 @@ impl Program {
         Program { items, crates, scopes, by_name, modules, handed_on, from_the_kit }
     }
 
-    /// The functions that the calls of an item may reach, and the constants that it names. A function that is a value
-    /// the language does not have.
+    /// The functions that the calls of an item may reach, and what it names without a call: constants, and functions that
+    /// it may hand on as values, of which those of a type are named by a path.
     pub fn reached_by(&self, item: &Item) -> BTreeSet<usize> {
         let calls = item.body.calls.iter().flat_map(|call| match self.target(item, call) {
             Target::Items(items) => items,
             Target::Kit | Target::Unknown => Vec::new(),
         });
-        let constants = item.body.names.iter().flat_map(|name| self.seen(item, name, |other| other.is_constant));
-        calls.chain(constants).collect()
+        let names = item.body.names.iter().flat_map(|name| self.seen(item, name, |other| other.owner.is_none()));
+        let ends = item.body.ends_of_paths.iter().flat_map(|name| self.seen(item, name, |_| true));
+        calls.chain(names).chain(ends).collect()
     }
 
     pub fn target(&self, caller: &Item, call: &Call) -> Target {
@@ -293,6 +294,16 @@ mod tests {
         let caller = program.items.iter().find(|item| item.name == "f").unwrap();
         let reached: Vec<_> = program.reached_by(caller).into_iter().map(|place| &program.items[place].name).collect();
         assert_eq!(reached, ["HALF"]);
+    }
+
+    #[test]
+    fn functions_are_reached_where_they_are_handed_on() {
+        let halves = "pub fn half(a: u8) -> u8 { a / 2 } impl A { fn third(self) -> u8 { 3 } fn g(self) {} }";
+        let files = [("crates/slices/src/lib.rt", halves)];
+        let program = program(&[files[0], ("crates/sector/src/a.rt", "fn f() { g.map(half).map(A::third) }")]);
+        let caller = program.items.iter().find(|item| item.name == "f").unwrap();
+        let reached: Vec<_> = program.reached_by(caller).into_iter().map(|place| &program.items[place].name).collect();
+        assert_eq!(reached, ["half", "third"]);
     }
 
     #[test]

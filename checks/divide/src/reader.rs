@@ -41,6 +41,16 @@ impl<'t> Reader<'t> {
         is_next
     }
 
+    /// Goes over both texts, if they come next.
+    pub fn skip_both(&mut self, first: &str, second: &str) -> bool {
+        let start = self.place;
+        let are_next = self.skip(first) && self.skip(second);
+        if !are_next {
+            self.place = start;
+        }
+        are_next
+    }
+
     pub fn expect(&mut self, text: &str) -> Result<(), String> {
         if self.skip(text) {
             return Ok(());

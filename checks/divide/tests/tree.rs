@@ -165,9 +165,9 @@ fn a_constant_that_is_divided() {
 
 #[test]
 fn code_that_is_not_here() {
-    let kit = with_line(HEADER, "is_bcd_of", "bytes::copy(&a, &mut b);");
+    let kit = with_line(HEADER, "is_bcd_of", "std::mem::swap(&mut a, &mut b);");
     let (fault, chain) = &found(&kit, "is_bcd_of")[0];
-    assert_eq!(fault, "calls `bytes::copy`, whose source is not here");
+    assert_eq!(fault, "calls `std::mem::swap`, whose source is not here");
     assert_eq!(chain, "address_holds -> is_bcd_of");
     let method = with_line(HEADER, "is_bcd_of", "let low = n.rem_euclid(10);");
     let faults: Vec<String> = found(&method, "is_bcd_of").into_iter().map(|(fault, _)| fault).collect();
@@ -235,7 +235,7 @@ fn a_root_that_is_renamed() {
 fn a_tree_without_exported_calls() {
     let mut tree = tree();
     let files = tree.files.iter_mut().filter(|(file, _)| file.starts_with("crates/exports/"));
-    files.for_each(|(_, text)| *text = text.replace("#[no_mangle]", ""));
+    files.for_each(|(_, text)| *text = text.replace("#[unsafe(no_mangle)]", ""));
     assert!(found(&tree, "every exported call of a drive")[0].0.starts_with("is missing"));
 }
 

@@ -8,7 +8,7 @@ use std::thread::{self, JoinHandle};
 use std::time::{Duration, Instant};
 
 const PROGRAM_VARIABLE: &str = "BENCH";
-const MADE_BY_RT: &str = concat!(env!("CARGO_MANIFEST_DIR"), "/../../target/bin/bench");
+const MADE_BY_RT: &str = concat!(env!("CARGO_MANIFEST_DIR"), "/../../crates/bench/out/bench");
 /// More than any script's answers: a flood is cut here and shows as a difference.
 const MOST_BYTES: u64 = 1 << 30;
 const BETWEEN_LOOKS: Duration = Duration::from_millis(1);
@@ -20,7 +20,7 @@ const PIECE_BYTES: usize = 65536;
 pub fn find() -> PathBuf {
     let path = PathBuf::from(std::env::var_os(PROGRAM_VARIABLE).unwrap_or(MADE_BY_RT.into()));
     let path_text = path.display();
-    assert!(path.is_file(), "{path_text} is missing: run `rt check bench`, or name a program in {PROGRAM_VARIABLE}");
+    assert!(path.is_file(), "{path_text} is missing: run `rt run </dev/null` in crates/bench, or name a program in {PROGRAM_VARIABLE}");
     path
 }
 

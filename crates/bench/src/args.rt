@@ -1,58 +1,85 @@
 // What the program is asked for: no argument is standard input, one is a file to run or `--help`.
-use libc::{STDERR_FILENO, STDIN_FILENO, STDOUT_FILENO};
-use slices::equal;
+use crate::tell;
+use std::env::FillError;
+use std::rt::{Env, Files};
+use std::{fs, str};
 
-fn help(fd: i32) {
-    io::write_all(fd, b"usage: bench [FILE]\n");
-    io::write_all(
-        fd,
-        b"Runs the calls in FILE, or on standard input, one to a line, and writes a line of answer for each.\n",
-    );
-    io::write_all(
-        fd,
-        b"A line is call=NAME and its keys, as `call=open ring=4`. docs/BENCH.md has every call.\n",
-    );
+// An argument is read into so many bytes; a path is shorter.
+const LONGEST: usize = 4096;
+
+const USAGE: &str = "usage: bench [FILE]";
+
+const WHAT: &str =
+    "Runs the calls in FILE, or on standard input, one to a line, and writes a line of answer for each.";
+
+const LINES: &str =
+    "A line is call=NAME and its keys, as `call=open ring=4`. docs/BENCH.md has every call.";
+
+// Where the lines come from.
+#[derive(Drop)]
+pub(crate) enum Source<F> {
+    Nothing,
+    Standard,
+    Opened(F),
+}
+
+// The usage, where the arguments are not understood. That it cannot be written is nothing to tell.
+fn refused<R: Eprint, F>(rt: &R) -> Source<F> {
+    let _ = eprintln!(rt; "{USAGE}\n{WHAT}\n{LINES}");
+    Source::Nothing
 }
 
 // Opens a file by its name, and tells where that fails.
-fn opened(name: &[u8]) -> i32 {
-    let fd = os::open_read(name);
-    if fd < 0 {
-        os::fail(name);
+fn opened<R: Files + Eprint>(rt: &R, name: &str) -> Source<R::File> {
+    match fs::open(rt, name) {
+        Ok(file) => Source::Opened(file),
+        Err(error) => {
+            tell(rt, name, error);
+            Source::Nothing
+        }
     }
-    fd
 }
 
 // What the one argument asks for. A file whose name begins with `-` is named as `./-NAME`.
-fn asked(word: &[u8]) -> i32 {
-    if equal(word, b"--help") {
-        help(STDOUT_FILENO);
-        return -1;
+fn asked<R: Files + Print + Eprint>(rt: &R, word: &str) -> Source<R::File> {
+    if word == "--help" {
+        let _ = println!(rt; "{USAGE}\n{WHAT}\n{LINES}");
+        return Source::Nothing;
     }
-    if word.len() > 0 {
-        if word[0] == b'-' {
-            help(STDERR_FILENO);
-            return -1;
-        }
+    if word.starts_with('-') {
+        return refused(rt);
     }
-    opened(word)
+    opened(rt, word)
 }
 
-// The descriptor to read from; below 0 where there is nothing to run.
-pub(crate) fn input() -> i32 {
-    let count = os::arg_count();
-    if count < 2 {
-        return STDIN_FILENO;
+// What the first argument asks for, where there is no second.
+fn first<R: Env + Files + Print + Eprint>(rt: &R) -> Source<R::File> {
+    let mut space = [0u8; LONGEST];
+    match rt.arg(1, &mut space) {
+        Ok(size) => match str::from_utf8(&space[..size]) {
+            Ok(word) => asked(rt, word),
+            Err(error) => {
+                let _ = eprintln!(rt; "argument: {error}");
+                Source::Nothing
+            }
+        },
+        Err(FillError::NotPresent) => Source::Standard,
+        Err(FillError::TooLong) => {
+            let _ = eprintln!(rt; "argument: File name too long");
+            Source::Nothing
+        }
     }
-    if count > 2 {
-        help(STDERR_FILENO);
-        return -1;
+}
+
+// Whether there is such an argument; of one that is there no byte is needed.
+fn has_argument<R: Env>(rt: &R, number: usize) -> bool {
+    !matches!(rt.arg(number, &mut []), Err(FillError::NotPresent))
+}
+
+// What the arguments ask for.
+pub(crate) fn requested<R: Env + Files + Print + Eprint>(rt: &R) -> Source<R::File> {
+    if has_argument(rt, 2) {
+        return refused(rt);
     }
-    let mut word = io::buffer();
-    let size = os::arg(1, &mut word);
-    if os::errno() != 0 {
-        os::fail(b"argument");
-        return -1;
-    }
-    asked(&word[..size])
+    first(rt)
 }

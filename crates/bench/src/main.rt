@@ -7,22 +7,44 @@ mod args;
 ghost use Rattle.std.specs.Prelude.{◌+◌, ◌≤◌, ◌≡◌, length};
 ghost use Rattle.syntax.specs.Print.{room};
 
-use libc::STDOUT_FILENO;
+use args::Source;
 use numbers::least_length;
 use script::{Bench, feed};
+use std::fmt::InlineText;
+use std::io;
+use std::io::Read;
 
 // A line has at most 80 bytes; of a longer one 81 are kept, so that it stays too long and never fills the buffer.
 const KEPT: usize = 81;
 
+const BUFFER: usize = 65536;
+
+// The longest reason of the system's that is told whole.
+const REASON: usize = 256;
+
+// Tells what failed and why, as `read: Is a directory`; the number that the library puts behind the system's words is left out. That standard error
+// cannot be written is nothing to tell.
+fn tell<R: Eprint>(rt: &R, what: &str, error: io::Error) {
+    let text = InlineText::<REASON>::of(error);
+    let words = text.as_str();
+    let reason = match words.split_once(" (os error ") {
+        Some((before, _)) => before,
+        None => words,
+    };
+    let _ = eprintln!(rt; "{what}: {reason}");
+}
+
 // Writes the first bytes of the output, and tells where that fails.
-fn put(output: &[u8], size: usize) -> bool
+fn put<R: Print + Eprint>(rt: &R, output: &[u8], size: usize) -> bool
     requires { size ≤ length output.now }
 {
-    let written = io::write_all(STDOUT_FILENO, &output[..size]);
-    if !written {
-        os::fail(b"write");
+    match rt.write_all(&output[..size]) {
+        Ok(()) => true,
+        Err(error) => {
+            tell(rt, "write", error);
+            false
+        }
     }
-    written
 }
 
 // The bench after lines of the input were run: where they began, how many bytes they took, and whether their answers were written.
@@ -35,7 +57,8 @@ struct Turn {
 }
 
 // Runs lines from a place on, as many as the output has room for, and writes their answers.
-fn run_some(
+fn run_some<R: Print + Eprint>(
+    rt: &R,
     bench: Bench,
     input: &[u8],
     at: usize,
@@ -49,7 +72,7 @@ fn run_some(
 {
     let fed = feed(bench, memory, sector, &input[at..], output);
     let next = fed.bench;
-    let written = put(output, fed.size);
+    let written = put(rt, output, fed.size);
     Turn {
         bench: next,
         at: at,
@@ -59,7 +82,8 @@ fn run_some(
 }
 
 // Runs every line of the input that has an end. What follows the last of them begins at the answer's `at`.
-fn run_lines(
+fn run_lines<R: Print + Eprint>(
+    rt: &R,
     start: Bench,
     input: &[u8],
     memory: &mut [u8],
@@ -68,11 +92,11 @@ fn run_lines(
 ) -> Turn
     ensures { result.at ≤ length input.now }
 {
-    let mut turn = run_some(start, input, 0, memory, sector, output);
+    let mut turn = run_some(rt, start, input, 0, memory, sector, output);
     while turn.taken > 0 && turn.written {
         let bench = turn.bench;
         let at = turn.at + turn.taken;
-        turn = run_some(bench, input, at, memory, sector, output);
+        turn = run_some(rt, bench, input, at, memory, sector, output);
     }
     turn
 }
@@ -84,11 +108,7 @@ fn keep(input: &mut [u8], rest: usize, end: usize) -> usize
     ensures { result ≤ 81 }
 {
     let size = least_length(KEPT, end - rest);
-    let mut i = 0;
-    while i < size {
-        input[i] = input[rest + i];
-        i += 1;
-    }
+    input.copy_within(rest..rest + size, 0);
     size
 }
 
@@ -100,24 +120,23 @@ struct Came {
 }
 
 // Reads once, behind the bytes that are kept, and tells where that fails.
-fn read_more(fd: i32, input: &mut [u8], kept: usize) -> Came
+fn read_more<R: Eprint, I: Read>(rt: &R, from: &mut I, input: &mut [u8], kept: usize) -> Came
     requires { kept ≤ length input.old }
     ensures kept_le_end { kept ≤ result.end }
     ensures end_in_bounds { result.end ≤ length input.new }
 {
-    let got = libc::read(fd, &mut input[kept..]);
-    if got < 0 {
-        os::fail(b"read");
-    }
-    if got <= 0 {
-        return Came {
-            end: kept,
-            failed: got < 0,
-        };
-    }
-    Came {
-        end: kept + io::count(got, &input[kept..]),
-        failed: false,
+    match from.read(&mut input[kept..]) {
+        Ok(got) => Came {
+            end: kept + got,
+            failed: false,
+        },
+        Err(error) => {
+            tell(rt, "read", error);
+            Came {
+                end: kept,
+                failed: true,
+            }
+        }
     }
 }
 
@@ -132,8 +151,9 @@ struct Round {
 }
 
 // Reads once, runs the lines that ended and writes their answers.
-fn read_once(
-    fd: i32,
+fn read_once<R: Print + Eprint, I: Read>(
+    rt: &R,
+    from: &mut I,
     round: Round,
     input: &mut [u8],
     memory: &mut [u8],
@@ -146,7 +166,7 @@ fn read_once(
 {
     let bench = round.bench;
     let kept = round.kept;
-    let came = read_more(fd, input, kept);
+    let came = read_more(rt, from, input, kept);
     let end = came.end;
     if end == kept {
         return Round {
@@ -156,7 +176,7 @@ fn read_once(
             failed: came.failed,
         };
     }
-    let turn = run_lines(bench, &input[..end], memory, sector, output);
+    let turn = run_lines(rt, bench, &input[..end], memory, sector, output);
     let next = turn.bench;
     let rest = turn.at;
     Round {
@@ -167,9 +187,10 @@ fn read_once(
     }
 }
 
-// A proved loop has to end, and nothing says that the input does: the reads are counted down from a number that no run uses up.
-fn read_all(
-    fd: i32,
+// A proved loop has to end, and nothing says that the input does: the reads are counted, up to a number that no run comes to.
+fn read_all<R: Print + Eprint, I: Read>(
+    rt: &R,
+    from: &mut I,
     start: Bench,
     input: &mut [u8],
     memory: &mut [u8],
@@ -185,16 +206,24 @@ fn read_all(
         goes_on: true,
         failed: false,
     };
-    let mut left = u64::MAX;
-    while left > 0 && round.goes_on {
-        round = read_once(fd, round, input, memory, sector, output);
-        left -= 1;
+    for _ in 0..u64::MAX {
+        if !round.goes_on {
+            break;
+        }
+        round = read_once(rt, from, round, input, memory, sector, output);
     }
     round
 }
 
 // A last line may have no end. What came of a line before a read failed is not one.
-fn last(round: Round, input: &[u8], memory: &mut [u8], sector: &mut [u8], output: &mut [u8])
+fn last<R: Print + Eprint>(
+    rt: &R,
+    round: Round,
+    input: &[u8],
+    memory: &mut [u8],
+    sector: &mut [u8],
+    output: &mut [u8],
+)
     requires kept_in_bounds { round.kept ≤ length input.now }
     requires room_in_bounds { room ≤ length output.old }
 {
@@ -204,30 +233,38 @@ fn last(round: Round, input: &[u8], memory: &mut [u8], sector: &mut [u8], output
         return;
     }
     let ran = bench.run(memory, sector, &input[..kept], output);
-    put(output, ran.size);
+    put(rt, output, ran.size);
 }
 
 // Runs the lines of an input to its end, in lent buffers.
-fn run_all(fd: i32, input: &mut [u8], memory: &mut [u8], sector: &mut [u8], output: &mut [u8])
+fn run_all<R: Print + Eprint, I: Read>(
+    rt: &R,
+    from: &mut I,
+    input: &mut [u8],
+    memory: &mut [u8],
+    sector: &mut [u8],
+    output: &mut [u8],
+)
     requires in_bounds { 81 ≤ length input.old }
     requires room_in_bounds { room ≤ length output.old }
 {
-    let end = read_all(fd, Bench::start(), input, memory, sector, output);
-    last(end, input, memory, sector, output);
+    let end = read_all(rt, from, Bench::start(), input, memory, sector, output);
+    last(rt, end, input, memory, sector, output);
 }
 
-fn main() {
-    let fd = args::input();
-    if fd < 0 {
-        return;
+// The same in buffers of its own.
+fn run<R: Print + Eprint, I: Read>(rt: &R, from: &mut I) {
+    let mut sector = [0u8; 2352];
+    let mut memory = [0u8; 64000];
+    let mut input = [0u8; BUFFER];
+    let mut output = [0u8; BUFFER];
+    run_all(rt, from, &mut input, &mut memory, &mut sector, &mut output);
+}
+
+fn main(rt: HostRuntime) {
+    match args::requested(&rt) {
+        Source::Nothing => {}
+        Source::Standard => run(&rt, &mut rt.stdin()),
+        Source::Opened(mut file) => run(&rt, &mut file),
     }
-    let mut sector_space = [0; 2352];
-    let mut ring_space = [0; 64000];
-    let mut input_space = io::large_buffer();
-    let mut output_space = io::large_buffer();
-    let sector: &mut [u8] = &mut sector_space;
-    let memory: &mut [u8] = &mut ring_space;
-    let input: &mut [u8] = &mut input_space;
-    let output: &mut [u8] = &mut output_space;
-    run_all(fd, input, memory, sector, output);
 }

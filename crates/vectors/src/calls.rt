@@ -1,6 +1,7 @@
 // The library's calls on what a record holds, each as a yes or no: does it answer what it has to.
 use super::kinds::Kind;
 use sector::{Address, Subheader};
+use slices::equal;
 
 // Puts `part` into the buffer from `at` on, where it fits.
 pub(crate) fn put(buffer: &mut [u8], at: usize, part: &[u8]) {
@@ -10,7 +11,7 @@ pub(crate) fn put(buffer: &mut [u8], at: usize, part: &[u8]) {
     if part.len() > buffer.len() - at {
         return;
     }
-    bytes::copy(part, &mut buffer[at..]);
+    buffer[at..at + part.len()].copy_from_slice(part);
 }
 
 // So many bytes from `at` on, or none where there are not so many.
@@ -54,7 +55,7 @@ pub(crate) fn seals(
     let buffer: &mut [u8] = &mut space;
     put(buffer, kind.user, user);
     let reply = sector::seal(buffer, address, kind.number, header);
-    reply.number == 0 && reply.result == 0 && check::same(buffer, scrambled)
+    reply.number == 0 && reply.result == 0 && equal(buffer, scrambled)
 }
 
 // Opening the scrambled sector gives the plain one.
@@ -63,7 +64,7 @@ pub(crate) fn opens(scrambled: &[u8], plain: &[u8]) -> bool {
     let buffer: &mut [u8] = &mut space;
     put(buffer, 0, scrambled);
     let reply = sector::open(buffer);
-    reply.number == 0 && reply.result == 0 && check::same(buffer, plain)
+    reply.number == 0 && reply.result == 0 && equal(buffer, plain)
 }
 
 // Judging gives these facts, as the number why.

@@ -44,11 +44,11 @@ fn behind(plain: &[u8], kind: Kind, address: Address, t: Tally) -> Tally {
     if kind.number == 3 {
         return t;
     }
-    let u = t.check(b" parity", ends(plain, 2076, 2351, address, 0));
+    let u = t.check(" parity", ends(plain, 2076, 2351, address, 0));
     if kind.number == 2 {
         return u;
     }
-    u.check(b" zeros", ends(plain, 2068, 2075, address, 0))
+    u.check(" zeros", ends(plain, 2068, 2075, address, 0))
 }
 
 // The copies of the subheader, which no longer are equal (4); the EDC covers them.
@@ -57,17 +57,17 @@ fn copies(plain: &[u8], kind: Kind, address: Address, t: Tally) -> Tally {
         return t;
     }
     let first = ends(plain, 16, 19, address, 4 + 2);
-    t.check(b" copies", first && ends(plain, 20, 23, address, 4 + 2))
+    t.check(" copies", first && ends(plain, 20, 23, address, 4 + 2))
 }
 
 // The EDC (2) covers sync (8) and address (1) in mode 1 alone. With the mode byte changed (4) the rule is that of mode 1, whose EDC is wrong too.
 pub(crate) fn checks(plain: &[u8], kind: Kind, address: Address, t: Tally) -> Tally {
-    let a = t.check(b" sync", ends(plain, 0, 11, address, kind.sync));
-    let b = a.check(b" address", address_bytes(plain, address, kind.address));
-    let c = b.check(b" mode", changed(plain, 15, address, 4 + 2));
+    let a = t.check(" sync", ends(plain, 0, 11, address, kind.sync));
+    let b = a.check(" address", address_bytes(plain, address, kind.address));
+    let c = b.check(" mode", changed(plain, 15, address, 4 + 2));
     let d = copies(plain, kind, address, c);
-    let e = d.check(b" user", ends(plain, kind.user, kind.last, address, 2));
-    let f = e.check(b" edc", ends(plain, kind.code, kind.code_last, address, 2));
-    let g = f.check(b" no edc", no_edc(plain, kind, address));
+    let e = d.check(" user", ends(plain, kind.user, kind.last, address, 2));
+    let f = e.check(" edc", ends(plain, kind.code, kind.code_last, address, 2));
+    let g = f.check(" no edc", no_edc(plain, kind, address));
     behind(plain, kind, address, g)
 }

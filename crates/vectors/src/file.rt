@@ -1,7 +1,13 @@
 // The file of vectors: a header of 32 bytes, then records of 7,052 bytes, read one at a time. Whatever is wrong with it is a check
 // that failed, and ends the reading.
+ghost use Rattle.std.specs.Prelude.{◌≤◌, length};
+
 use super::tally::Tally;
-use super::{fields, record, tally};
+use super::{fields, record};
+use slices::equal;
+use std::fs;
+use std::io::Read;
+use std::rt::Files;
 
 // How many records a header announces, or what is wrong with it.
 #[derive(Drop)]
@@ -29,7 +35,7 @@ fn parse(h: &[u8]) -> Header {
     if h.len() != 32 {
         return Header::Short;
     }
-    if !check::same(&h[0..8], b"ECMA130V") {
+    if !equal(&h[0..8], b"ECMA130V") {
         return Header::Magic;
     }
     if fields::word(&h[8..12]) != 1 {
@@ -44,24 +50,38 @@ fn parse(h: &[u8]) -> Header {
     Header::Records(fields::word(&h[12..16]))
 }
 
-fn read_header(fd: i32) -> Header {
+// Reads until the buffer is full, the input ends or a read fails, and gives how many bytes came.
+fn read_full<I: Read>(from: &mut I, buffer: &mut [u8]) -> usize
+    ensures { result ≤ length buffer.new }
+{
+    let mut done = 0;
+    while done < buffer.len() {
+        match from.read(&mut buffer[done..]) {
+            Ok(0) | Err(_) => break,
+            Ok(got) => done += got,
+        }
+    }
+    done
+}
+
+fn read_header<I: Read>(from: &mut I) -> Header {
     let mut buffer = [0u8; 32];
-    let n = io::read_full(fd, &mut buffer);
+    let n = read_full(from, &mut buffer);
     parse(&buffer[..n])
 }
 
 // A line of one check, which failed.
-fn failure(words: &[u8], t: Tally) -> Tally {
-    tally::text(b"sectors.bin");
+fn failure(words: &str, t: Tally) -> Tally {
+    t.text("sectors.bin");
     let u = t.check(words, false);
-    tally::text(b"\n");
+    u.text("\n");
     u
 }
 
-// Nothing more is read.
-fn ended(tally: Tally, r: Reading) -> Reading {
+// Tells what is wrong; nothing more is read.
+fn ended(words: &str, r: Reading) -> Reading {
     Reading {
-        tally,
+        tally: failure(words, r.tally),
         records: r.records,
         mode1: r.mode1,
         form1: r.form1,
@@ -75,37 +95,36 @@ fn counted(count: u32, kind: u8, of: u8) -> u32 {
     if kind != of {
         return count;
     }
-    std::num::wrapping_add_u32(count, 1)
+    count.wrapping_add(1)
 }
 
 // One record more, run by its kind: 1 is mode 1, 2 is mode 2 form 1, and 3 is mode 2 form 2.
 fn take(bytes: &[u8], r: Reading) -> Reading {
-    let t = r.tally;
     if bytes.len() != 7052 {
-        return ended(failure(b" whole records", t), r);
+        return ended(" whole records", r);
     }
-    let number = r.records;
     let kind = bytes[0];
     if (kind < 1) | (3 < kind) {
-        return ended(failure(b" kinds 1 to 3", t), r);
+        return ended(" kinds 1 to 3", r);
     }
-    let mut next = r;
-    next.records = std::num::wrapping_add_u32(number, 1);
-    next.mode1 = counted(r.mode1, kind, 1);
-    next.form1 = counted(r.form1, kind, 2);
-    next.form2 = counted(r.form2, kind, 3);
-    next.tally = record::checks(number, bytes, t);
-    next
+    Reading {
+        tally: record::checks(r.records, bytes, r.tally),
+        records: r.records.wrapping_add(1),
+        mode1: counted(r.mode1, kind, 1),
+        form1: counted(r.form1, kind, 2),
+        form2: counted(r.form2, kind, 3),
+        goes_on: true,
+    }
 }
 
-fn read_one(fd: i32, r: Reading) -> Reading {
+fn read_one<I: Read>(from: &mut I, r: Reading) -> Reading {
     let mut buffer = [0u8; 7052];
-    let n = io::read_full(fd, &mut buffer);
+    let n = read_full(from, &mut buffer);
     take(&buffer[..n], r)
 }
 
 // At most `count` records.
-fn read_all(fd: i32, count: u32, t: Tally) -> Reading {
+fn read_all<I: Read>(from: &mut I, count: u32, t: Tally) -> Reading {
     let mut r = Reading {
         tally: t,
         records: 0,
@@ -114,48 +133,50 @@ fn read_all(fd: i32, count: u32, t: Tally) -> Reading {
         form2: 0,
         goes_on: true,
     };
-    let mut left = count;
-    while left > 0 && r.goes_on {
-        r = read_one(fd, r);
-        left -= 1;
+    for _ in 0..count {
+        if !r.goes_on {
+            break;
+        }
+        r = read_one(from, r);
     }
     r
 }
 
-fn records(fd: i32, count: u32, t: Tally) -> Tally {
-    let r = read_all(fd, count, t);
-    tally::text(b"sectors.bin ");
-    tally::number(r.records);
-    tally::text(b" records, ");
-    tally::number(r.mode1);
-    let u = r.tally.check(b" of mode 1", r.mode1 > 0);
-    tally::text(b", ");
-    tally::number(r.form1);
-    let v = u.check(b" of form 1", r.form1 > 0);
-    tally::text(b", ");
-    tally::number(r.form2);
-    let w = v.check(b" of form 2", r.form2 > 0);
-    tally::text(b"\n");
+fn records<I: Read>(from: &mut I, count: u32, t: Tally) -> Tally {
+    let r = read_all(from, count, t);
+    let s = r.tally;
+    s.text("sectors.bin ");
+    s.number(r.records);
+    s.text(" records, ");
+    s.number(r.mode1);
+    let u = s.check(" of mode 1", r.mode1 > 0);
+    u.text(", ");
+    u.number(r.form1);
+    let v = u.check(" of form 1", r.form1 > 0);
+    v.text(", ");
+    v.number(r.form2);
+    let w = v.check(" of form 2", r.form2 > 0);
+    w.text("\n");
     w
 }
 
-fn run(fd: i32, header: Header, t: Tally) -> Tally {
+fn run<I: Read>(from: &mut I, header: Header, t: Tally) -> Tally {
     match header {
-        Header::Records(count) => records(fd, count, t),
-        Header::Short => failure(b" header of 32 bytes", t),
-        Header::Magic => failure(b" magic ECMA130V", t),
-        Header::Version => failure(b" version 1", t),
-        Header::RecordSize => failure(b" record size 7052", t),
-        Header::FirstRecord => failure(b" first record at 32", t),
+        Header::Records(count) => records(from, count, t),
+        Header::Short => failure(" header of 32 bytes", t),
+        Header::Magic => failure(" magic ECMA130V", t),
+        Header::Version => failure(" version 1", t),
+        Header::RecordSize => failure(" record size 7052", t),
+        Header::FirstRecord => failure(" first record at 32", t),
     }
 }
 
-pub(crate) fn checks(t: Tally) -> Tally {
-    let fd = os::open_read(b"sectors.bin");
-    if fd < 0 {
-        return failure(b" opened", t);
+pub(crate) fn checks<R: Files>(rt: &R, t: Tally) -> Tally {
+    match fs::open(rt, "sectors.bin") {
+        Ok(mut file) => {
+            let header = read_header(&mut file);
+            run(&mut file, header, t)
+        }
+        Err(_) => failure(" opened", t),
     }
-    let u = run(fd, read_header(fd), t);
-    libc::close(fd);
-    u
 }

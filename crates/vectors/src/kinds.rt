@@ -2,7 +2,7 @@
 
 // The kind's number; where its user bytes begin, the last of them, and how many there are; where the EDC's first and last byte stand, from where on it
 // covers the bytes before it, and how many; and why of a damaged sync byte and of a damaged address, which in mode 1 it covers too.
-#[derive(Drop)]
+#[derive(Clone, Copy)]
 pub(crate) struct Kind {
     pub number: u16,
     pub user: usize,

@@ -13,10 +13,10 @@ mod refusals;
 mod tally;
 mod words;
 
-fn main() {
-    let none = tally::Tally::new();
+fn main(rt: HostRuntime) {
+    let none = tally::Tally::new(rt.stdout());
     let values = published::checks(none);
     let refused = refusals::checks(values);
-    let all = file::checks(refused);
+    let all = file::checks(&rt, refused);
     all.print();
 }

@@ -4,7 +4,7 @@ ghost use Rattle.std.specs.Prelude.{◌≡◌, length};
 
 use super::kinds::Kind;
 use super::tally::Tally;
-use super::{calls, damage, fields, kinds, tally, words};
+use super::{calls, damage, fields, kinds, words};
 use sector::Address;
 
 // 75 frames are a second. The file gives the address in BCD too, which sealing has to find by itself.
@@ -17,17 +17,17 @@ fn address_of(frames: u32) -> Address {
 }
 
 // The beginning of a line.
-fn heading(number: u32, kind: Kind, address: Address) {
-    tally::text(b"record ");
-    tally::number(number);
-    tally::text(b" kind ");
-    tally::number(kind.number as u32);
-    tally::text(b" ");
-    tally::two(address.minute);
-    tally::text(b":");
-    tally::two(address.second);
-    tally::text(b":");
-    tally::two(address.frame);
+fn heading(number: u32, kind: Kind, address: Address, t: &Tally) {
+    t.text("record ");
+    t.number(number);
+    t.text(" kind ");
+    t.number(kind.number as u32);
+    t.text(" ");
+    t.two(address.minute);
+    t.text(":");
+    t.two(address.second);
+    t.text(":");
+    t.two(address.frame);
 }
 
 // What the record holds, against the calls. 99:59:74 is the last of 450,000 addresses, and the first follows it.
@@ -42,12 +42,12 @@ fn compare(bytes: &[u8], kind: Kind, frames: u32, t: Tally) -> Tally
     let user = calls::part(bytes, 24, kind.size);
     let code = edc::edc(calls::part(plain, kind.from, kind.covers));
     let sealed = calls::seals(user, kind, header, address, scrambled);
-    let a = t.check(b" edc", code == fields::word(&bytes[20..24]));
-    let b = a.check(b" sealed", sealed);
-    let c = b.check(b" opened", calls::opens(scrambled, plain));
-    let d = c.check(b" judged", calls::judges(plain, address, 0));
-    let e = d.check(b" next", calls::judges(plain, next, 1));
-    e.check(b" parity", calls::says(plain, 1))
+    let a = t.check(" edc", code == fields::word(&bytes[20..24]));
+    let b = a.check(" sealed", sealed);
+    let c = b.check(" opened", calls::opens(scrambled, plain));
+    let d = c.check(" judged", calls::judges(plain, address, 0));
+    let e = d.check(" next", calls::judges(plain, next, 1));
+    e.check(" parity", calls::says(plain, 1))
 }
 
 // The parity words; form 2 has none, and the check says yes of any bytes.
@@ -55,7 +55,7 @@ fn parity_words(plain: &[u8], kind: Kind, t: Tally) -> Tally
     requires { length plain.now ≡ 2352 }
 {
     if kind.number == 3 {
-        return t.check(b" any bytes", words::any_bytes(plain));
+        return t.check(" any bytes", words::any_bytes(plain));
     }
     words::checks(plain, kind.number == 2, t)
 }
@@ -67,13 +67,13 @@ pub(crate) fn checks(number: u32, bytes: &[u8], t: Tally) -> Tally
     let frames = fields::word(&bytes[8..12]);
     let address = address_of(frames);
     let kind = kinds::of(bytes[0]);
-    heading(number, kind, address);
+    heading(number, kind, address, &t);
     let u = compare(bytes, kind, frames, t);
-    tally::text(b"\n");
-    heading(number, kind, address);
-    tally::text(b" damaged");
+    u.text("\n");
+    heading(number, kind, address, &u);
+    u.text(" damaged");
     let v = damage::checks(&bytes[2348..4700], kind, address, u);
     let w = parity_words(&bytes[2348..4700], kind, v);
-    tally::text(b"\n");
+    w.text("\n");
     w
 }

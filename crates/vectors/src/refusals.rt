@@ -1,9 +1,9 @@
 // What the calls refuse: a length other than 2,352 by reply 1; an address out of range, an unknown kind or a form bit that is not the kind's by reply 3;
 // and no byte changed.
-use super::tally;
 use super::tally::Tally;
 use reply::Reply;
 use sector::{Address, Judged, Subheader};
+use slices::equal;
 
 const START: Address = Address {
     minute: 0,
@@ -33,7 +33,7 @@ fn with_submode(submode: u8) -> Subheader {
 fn refused_by(sector: &mut [u8], before: &[u8], address: Address, number: u8) -> bool {
     let sealed = is_refusal(sector::seal(sector, address, 1, with_submode(0)), number);
     let judged = is_refused(sector::judge(sector, address), number);
-    sealed && judged && check::same(sector, before)
+    sealed && judged && equal(sector, before)
 }
 
 // Every call refuses this length, and before the address.
@@ -68,9 +68,9 @@ fn bad_address(sector: &mut [u8], before: &[u8], minute: u16, second: u16, frame
 }
 
 fn lengths(t: Tally) -> Tally {
-    let a = t.check(b" length 0", wrong_length(0));
-    let b = a.check(b" length 2351", wrong_length(2351));
-    b.check(b" length 2353", wrong_length(2353))
+    let a = t.check(" length 0", wrong_length(0));
+    let b = a.check(" length 2351", wrong_length(2351));
+    b.check(" length 2353", wrong_length(2353))
 }
 
 fn addresses(t: Tally) -> Tally {
@@ -80,9 +80,9 @@ fn addresses(t: Tally) -> Tally {
     let minute = bad_address(sector, &before, 100, 0, 0);
     let second = bad_address(sector, &before, 0, 60, 0);
     let frame = bad_address(sector, &before, 0, 0, 75);
-    t.check(b" minute 100", minute)
-        .check(b" second 60", second)
-        .check(b" frame 75", frame)
+    t.check(" minute 100", minute)
+        .check(" second 60", second)
+        .check(" frame 75", frame)
 }
 
 // Sealing refuses the kind with this submode, and changes no byte; a wrong length is refused before it.
@@ -96,20 +96,20 @@ fn bad_kind(kind: u16, submode: u8) -> bool {
         sector::seal(&mut short, START, kind, with_submode(submode)),
         1,
     );
-    sealed && first && check::same(sector, &before)
+    sealed && first && equal(sector, &before)
 }
 
 fn kinds(t: Tally) -> Tally {
-    let a = t.check(b" kind 0", bad_kind(0, 0x00));
-    let b = a.check(b" kind 4", bad_kind(4, 0x20));
-    let c = b.check(b" kind 257", bad_kind(257, 0x00));
-    let d = c.check(b" form 1 with bit 5", bad_kind(2, 0x28));
-    d.check(b" form 2 without", bad_kind(3, 0xdf))
+    let a = t.check(" kind 0", bad_kind(0, 0x00));
+    let b = a.check(" kind 4", bad_kind(4, 0x20));
+    let c = b.check(" kind 257", bad_kind(257, 0x00));
+    let d = c.check(" form 1 with bit 5", bad_kind(2, 0x28));
+    d.check(" form 2 without", bad_kind(3, 0xdf))
 }
 
 pub(crate) fn checks(t: Tally) -> Tally {
-    tally::text(b"refused");
+    t.text("refused");
     let u = kinds(addresses(lengths(t)));
-    tally::text(b"\n");
+    u.text("\n");
     u
 }

@@ -1,79 +1,76 @@
 // The count of the checks, and what is written to standard output.
-use libc::STDOUT_FILENO;
+use std::rt::Stdout;
 
-// The checks made, and those of them that failed.
+// The checks made, those of them that failed, and where each is told. A line that cannot be written is missing from what was written, which
+// whoever runs the program compares; the checks go on.
 #[derive(Drop)]
 pub(crate) struct Tally {
+    out: Stdout,
     checks: u64,
     failed: u64,
 }
 
 impl Tally {
-    pub(crate) fn new() -> Tally {
+    pub(crate) fn new(out: Stdout) -> Tally {
         Tally {
+            out,
             checks: 0,
             failed: 0,
         }
     }
 
     // Writes the check's words and how it came out, and counts it.
-    pub(crate) fn check(self, words: &[u8], ok: bool) -> Tally {
-        let checks = std::num::wrapping_add_u64(self.checks, 1);
-        text(words);
+    pub(crate) fn check(self, words: &str, ok: bool) -> Tally {
+        let checks = self.checks.wrapping_add(1);
+        self.text(words);
         if ok {
-            text(b" ok");
+            self.text(" ok");
             return Tally {
+                out: self.out,
                 checks,
                 failed: self.failed,
             };
         }
-        text(b" FAILED");
+        self.text(" FAILED");
         Tally {
+            out: self.out,
             checks,
-            failed: std::num::wrapping_add_u64(self.failed, 1),
+            failed: self.failed.wrapping_add(1),
         }
     }
 
     // The last line.
     pub(crate) fn print(self) {
-        io::print_decimal(STDOUT_FILENO, self.checks);
-        text(b" checks, ");
-        io::print_decimal(STDOUT_FILENO, self.failed);
-        text(b" failed\n");
+        let Tally {
+            out,
+            checks,
+            failed,
+        } = self;
+        let _ = println!(out; "{checks} checks, {failed} failed");
     }
-}
 
-pub(crate) fn text(bytes: &[u8]) {
-    io::write_all(STDOUT_FILENO, bytes);
-}
-
-pub(crate) fn number(n: u32) {
-    io::print_decimal(STDOUT_FILENO, n as u64);
-}
-
-// Two decimal digits.
-pub(crate) fn two(n: u16) {
-    if n < 10 {
-        text(b"0");
+    pub(crate) fn text(&self, words: &str) {
+        let _ = self.out.print(words);
     }
-    number(n as u32);
-}
 
-// Eight hexadecimal digits.
-pub(crate) fn word(n: u32) {
-    io::print_hex(STDOUT_FILENO, n as u64, 8);
-}
+    pub(crate) fn number(&self, n: u32) {
+        let _ = self.out.print(n);
+    }
 
-// Two hexadecimal digits, with a space before them.
-fn byte(b: u8) {
-    text(b" ");
-    io::print_hex(STDOUT_FILENO, b as u64, 2);
-}
+    // Two decimal digits.
+    pub(crate) fn two(&self, n: u16) {
+        let _ = print!(self.out; "{n:02}");
+    }
 
-pub(crate) fn bytes(s: &[u8]) {
-    let mut i: usize = 0;
-    while i < s.len() {
-        byte(s[i]);
-        i += 1;
+    // Eight hexadecimal digits.
+    pub(crate) fn word(&self, n: u32) {
+        let _ = print!(self.out; "{n:08x}");
+    }
+
+    // Two hexadecimal digits for each byte, with a space before them.
+    pub(crate) fn bytes(&self, bytes: &[u8]) {
+        for byte in bytes {
+            let _ = print!(self.out; " {byte:02x}");
+        }
     }
 }

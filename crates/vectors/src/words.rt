@@ -3,6 +3,7 @@ ghost use Rattle.std.specs.Prelude.{◌≡◌, length};
 
 use super::calls;
 use super::tally::Tally;
+use slices::equal;
 
 // Written over other bytes, the parity is the sector's own.
 fn written(plain: &[u8], masked: bool) -> bool {
@@ -15,7 +16,7 @@ fn written(plain: &[u8], masked: bool) -> bool {
         return false;
     }
     parity::write(buffer, masked);
-    check::same(buffer, plain)
+    equal(buffer, plain)
 }
 
 fn change(buffer: &mut [u8], place: usize, by: u8) {
@@ -73,8 +74,8 @@ pub(crate) fn any_bytes(plain: &[u8]) -> bool {
 pub(crate) fn checks(plain: &[u8], masked: bool, t: Tally) -> Tally
     requires { length plain.now ≡ 2352 }
 {
-    let a = t.check(b" words", parity::check(plain, masked));
-    let b = a.check(b" written", written(plain, masked));
-    let c = b.check(b" each parity byte", each_wrong_byte(plain, masked));
-    c.check(b" P alone", p_alone(plain, masked))
+    let a = t.check(" words", parity::check(plain, masked));
+    let b = a.check(" written", written(plain, masked));
+    let c = b.check(" each parity byte", each_wrong_byte(plain, masked));
+    c.check(" P alone", p_alone(plain, masked))
 }

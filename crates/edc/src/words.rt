@@ -45,9 +45,11 @@ pub fn pad(b: &mut [u8; 256], s: &[u8], n: usize)
     ensures long { length b.new ≡ 256 }
     ensures total { edc (edc 0 b.new) (drop n s.now) ≡ edc 0 s.now }
 {
+    // The remainder leaves every place as it is: without it the compiler makes one call of the C library's `memcpy` of the loop, and a library that is
+    // linked into firmware is to need no more of it than `memset`.
     let mut i: usize = 0;
     while i < n {
-        b[256 - n + i] = s[i];
+        b[(256 - n + i) % 256] = s[i];
         i += 1;
     }
 }

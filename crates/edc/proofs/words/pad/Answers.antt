@@ -1,7 +1,7 @@
 -- `edc::words::pad` meets its contract. The invariant: what is written, and then what is left of `s`, gives the code. Assumes nothing.
 use mathlib.Core.Path.{◌≡◌, sym, ap, ap₂, ◌∙◌}
 use mathlib.Core.List.{List}
-use Prim.Native.Nat.{ℕ, ◌+◌, ◌-◌, ◌<◌}
+use Prim.Native.Nat.{ℕ, ◌+◌, ◌-◌, ◌%◌, ◌<◌}
 use native.Mathlib.Nat.{le_of_eq}
 use native.Mathlib.Omega.{arith}
 use lib.ListN.{length, get_or, set, take, drop, length-set}
@@ -20,10 +20,12 @@ loop-i-preserved c = let l = c.loop-i in
     let s = a.s.now in
     let m = 256 - a.n + l.i in
     let e : 256 - a.n + (l.i + 1) ≡ m + 1 = omega arith in
-    let h : m < length l.b = omega arith in (
+    let h : m < length l.b = omega arith in
+    let w : m % 256 ≡ m = omega arith in (
       omega arith,
       simp length-set l.invariant.1,
-      ap (λ (k : ℕ). edc (edc 0 (take k (set l.b m (get_or s l.i 0)))) (drop (l.i + 1) s)) e
+      ap (λ (j : ℕ). edc (edc 0 (take (256 - a.n + (l.i + 1)) (set l.b j (get_or s l.i 0)))) (drop (l.i + 1) s)) w
+          ∙ ap (λ (k : ℕ). edc (edc 0 (take k (set l.b m (get_or s l.i 0)))) (drop (l.i + 1) s)) e
           ∙ pad_next s l.b l.i m (omega arith) h ∙ l.invariant.2,
     )
 

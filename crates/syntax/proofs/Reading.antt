@@ -14,7 +14,7 @@ use Rattle.laws.specs.Choice.{if◌then◌else◌}
 use Rattle.laws.proofs.Choice.{left_true}
 use Rattle.laws.proofs.Ends.{drop_next}
 use Rattle.syntax.specs.Grammar.{digit, mark, grows, form, next, onward}
-use Rattle.syntax.specs.declared.numbers.Numbers.{Numbers}
+use Rattle.syntax.specs.declared.values.Numbers.{Numbers}
 
 pub onward_step : (n m : Numbers) (xs : List ℕ) (i : ℕ) → i < length xs → m ≡ next n (get_or xs i 0) → onward m (drop (i + 1) xs) ≡ onward n (drop i xs)
 unfolding onward

@@ -4,7 +4,7 @@ use Rattle.std.specs.Prelude.{ℕ, ◌+◌, ◌*◌, ◌-◌, Bool, true, false,
 use Rattle.laws.specs.Choice.{if◌then◌else◌}
 use Rattle.laws.specs.Same.{same}
 use Rattle.syntax.specs.Forms.{open_form, read_form, block_form, packet_form, command_form, send_form, write_form, window_form, address_form, sector_form, scratch_form, kind_form, subheader_form, reset_form, look_form, word_form, status_form, srst_form}
-use Rattle.syntax.specs.declared.numbers.Numbers.{Numbers}
+use Rattle.syntax.specs.declared.values.Numbers.{Numbers}
 use Rattle.syntax.specs.declared.line.Line.{Line}
 use Rattle.syntax.specs.declared.line.Line.TheVariants.{Malformed, Open, Plain, Look, Take, Disc, Scratch, SetKind, SetSubheader}
 use Rattle.calls.specs.declared.Call.TheVariants.{Read, Write, SetBlock, SetWindow, SetExpected, PacketByte, Reset, Command, PacketWord, Status, Srst}

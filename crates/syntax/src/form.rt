@@ -2,7 +2,7 @@
 ghost use Rattle.std.specs.Prelude.{◌≡◌, false, ◌≤◌, length, take};
 ghost use Rattle.syntax.specs.Grammar.{form, mark, grows};
 
-use crate::numbers::digit;
+use crate::values::digit;
 
 // What a byte is written as.
 fn mark(byte: u8) -> u8

@@ -4,5 +4,5 @@
 mod decimal;
 mod form;
 pub mod line;
-mod numbers;
 pub mod print;
+mod values;

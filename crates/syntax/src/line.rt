@@ -4,7 +4,7 @@ ghost use Rattle.std.specs.Prelude.{◌≡◌};
 ghost use Rattle.syntax.specs.Grammar.{bare, disc, several, named, parse};
 
 use crate::form::form;
-use crate::numbers::{Numbers, values};
+use crate::values::{Numbers, values};
 use calls::Call;
 use sector::Address;
 use slices::equal;

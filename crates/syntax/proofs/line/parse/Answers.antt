@@ -7,7 +7,7 @@ use lib.Seq.{length-take-le}
 use borrow.Author.Tests.{le-ltb, lt-ltb}
 use Rattle.laws.proofs.Choice.{if_true, if_false}
 use Rattle.syntax.specs.Grammar.{parse, named}
-use Rattle.syntax.specs.declared.numbers.Numbers.{Numbers}
+use Rattle.syntax.specs.declared.values.Numbers.{Numbers}
 use Rattle.syntax.proofs.line.parse.Goals as goal
 
 pub returns-then-line-gt80 : goal.returns-then-line-gt80

@@ -1,7 +1,7 @@
--- `syntax::numbers::Numbers::longer` meets its contract. Assumes nothing.
+-- `syntax::values::Numbers::longer` meets its contract. Assumes nothing.
 use borrow.Author.Tests.{lt-ltb, le-ltb}
 use Rattle.syntax.specs.Grammar.{longer}
-use Rattle.syntax.proofs.numbers.Numbers.longer.Goals as goal
+use Rattle.syntax.proofs.values.Numbers.longer.Goals as goal
 
 pub returns-then-value-gt65535 : goal.returns-then-value-gt65535
 unfolding longer

@@ -1,11 +1,11 @@
--- `syntax::numbers::values` meets its contract. The loop's invariant: the numbers so far, carried on over what is left, are the line's.
+-- `syntax::values::values` meets its contract. The loop's invariant: the numbers so far, carried on over what is left, are the line's.
 -- Assumes nothing.
 use mathlib.Core.Path.{sym, ◌∙◌}
 use Prim.Native.Nat.{◌<◌, ◌≤◌}
 use native.Mathlib.Omega.{arith}
 use lib.ListN.{length}
 use Rattle.syntax.proofs.Reading.{onward_step, onward_end}
-use Rattle.syntax.proofs.numbers.values.Goals as goal
+use Rattle.syntax.proofs.values.values.Goals as goal
 
 pub loop-i-preserved : goal.loop-i-preserved
 loop-i-preserved c =

@@ -1,9 +1,9 @@
--- `syntax::numbers::Numbers::next` meets its contract. Assumes nothing.
+-- `syntax::values::Numbers::next` meets its contract. Assumes nothing.
 use mathlib.Core.Bool.{not}
 use mathlib.Core.Path.{sym, ap}
 use Rattle.syntax.specs.Grammar.{next}
 use Rattle.syntax.proofs.Reading.{digit_low}
-use Rattle.syntax.proofs.numbers.Numbers.next.Goals as goal
+use Rattle.syntax.proofs.values.Numbers.next.Goals as goal
 
 pub returns-then-not-digit : goal.returns-then-not-digit
 unfolding next

@@ -6,7 +6,7 @@ use mathlib.Core.List.{List, [], ◌∷◌}
 use lib.Dec.{eqb}
 use lib.ListN.{length, take, drop, get_or}
 use borrow.Author.Tests.{eqb-true, eqb-false}
-use Rattle.laws.specs.Choice.{if◌then◌else◌}
+use Rattle.std.specs.Prelude.{if◌then◌else◌}
 use Rattle.laws.specs.Numbers.{weight}
 use Rattle.laws.proofs.Choice.{if_case, if_true, if_false, left_true, right_true}
 use Rattle.calls.specs.declared.Call.{Call as Plain}

@@ -5,7 +5,7 @@ use mathlib.Core.List.{List, [], ◌∷◌}
 use native.Mathlib.Omega.{arith}
 use lib.Dec.{eqb}
 use lib.ListN.{length, replicate, length-replicate}
-use Rattle.laws.specs.Choice.{if◌then◌else◌}
+use Rattle.std.specs.Prelude.{if◌then◌else◌}
 use Rattle.outcomes.specs.Machine.{Call, plain, sector, look, word, Answer, handed, number, answers}
 use Rattle.outcomes.specs.Row.{the_row}
 use Rattle.chip.specs.Machine.{State, chip_answer, chip_step, the_chip}

@@ -7,7 +7,7 @@
 -- byte, nor that its kind is the one it was sealed as (FoundClaim and TwoKindsClaim of the sectors). Assumes nothing.
 use Rattle.std.specs.Prelude.{ℕ, ◌+◌, ◌*◌, ◌%◌, ◌<◌, ◌≤◌, ◌≡◌, true, List, [], ◌∷◌, ◌++◌, ◌⊎◌, eqb, length, take, drop, get_or, replicate}
 use Rattle.laws.specs.Bytes.{word_at}
-use Rattle.laws.specs.Choice.{if◌then◌else◌}
+use Rattle.std.specs.Prelude.{if◌then◌else◌}
 use Rattle.calls.specs.Choice.{if_reset}
 use Rattle.sector.specs.Judge.{sync_holds, code_right, address_holds}
 use Rattle.sector.specs.Layout.{kind_read, layout_read}

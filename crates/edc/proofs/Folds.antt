@@ -11,7 +11,7 @@ use lib.Dec.{eqb}
 use lib.Pow.{split, pow_pos, pow-add, shr_lt}
 use lib.Bits.{bit_xor, xor_shifted}
 use borrow.Author.Tests.{eqb-true}
-use Rattle.laws.specs.Choice.{if◌then◌else◌}
+use Rattle.std.specs.Prelude.{if◌then◌else◌}
 use Rattle.laws.proofs.Choice.{left_true, right_true}
 use Rattle.laws.proofs.Xor.{past}
 use Rattle.edc.specs.Edc.{feedback, feedback_is}

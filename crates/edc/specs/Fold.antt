@@ -2,7 +2,7 @@
 -- No public contract cites them. Assumes nothing.
 use Rattle.std.specs.Prelude.{◌≡◌, Bool, true, ◌&&◌, List, ℕ, zero, suc, ◌+◌, ◌*◌, ◌/◌, ◌%◌, ◌^◌, ◌<◌, ◌≤◌, eqb, get_or}
 use Rattle.std.specs.Int.Bits.{bit_xor}
-use Rattle.laws.specs.Choice.{if◌then◌else◌}
+use Rattle.std.specs.Prelude.{if◌then◌else◌}
 use Rattle.edc.specs.Edc.{feedback}
 
 -- the register after one bit with no data, and after n

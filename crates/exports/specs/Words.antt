@@ -2,7 +2,7 @@
 -- numbers"). What a call leaves in the sector is sector's to say, and what lines leave script's. Assumes nothing.
 use Rattle.std.specs.Prelude.{List, ℕ, get_or}
 use Rattle.laws.specs.Bytes.{pair}
-use Rattle.laws.specs.Choice.{if◌then◌else◌}
+use Rattle.std.specs.Prelude.{if◌then◌else◌}
 use Rattle.sector.specs.declared.Address.{Address}
 use Rattle.reply.specs.Reply.{refusal, answer}
 use Rattle.reply.specs.declared.Reply.{Reply}

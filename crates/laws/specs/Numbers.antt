@@ -1,6 +1,6 @@
 -- Numbers made of switches. Assumes nothing.
 use Rattle.std.specs.Prelude.{Bool, List, [], ◌∷◌, ℕ, ◌+◌, ◌*◌}
-use Rattle.laws.specs.Choice.{if◌then◌else◌}
+use Rattle.std.specs.Prelude.{if◌then◌else◌}
 
 -- a switch as the bit of weight w
 abbrev pub weight : Bool → ℕ → ℕ

@@ -7,7 +7,7 @@ use mathlib.Core.Logic.{◌⊎◌, inl, inr, ⊎_elim}
 use native.Mathlib.Omega.{arith}
 use lib.Dec.{eqb}
 use borrow.Author.Tests.{eqb-true, not-true}
-use Rattle.laws.specs.Choice.{if◌then◌else◌}
+use Rattle.std.specs.Prelude.{if◌then◌else◌}
 use Rattle.laws.proofs.Choice.{if_case, if_false, right_false}
 use Rattle.laws.proofs.Tests.{clash, and3, and4, or_false, if_not}
 use Rattle.controller.specs.Fields.{◌▹◌, mbc≔, atint≔, atblo≔, atbhi≔, drq≔, bsy≔, hirq≔, transfer≔}

@@ -2,7 +2,7 @@
 -- definitions, and has no block numbers and no memory: of what a ring of N blocks is, it knows N alone. Assumes nothing.
 use Rattle.std.specs.Prelude.{ℕ, ◌+◌, ◌*◌, ◌<◌, ◌≤◌, ◌≡◌, ◌&&◌, not, List, [], ◌∷◌, ◌++◌, eqb, length, take, drop, get_or}
 use Rattle.laws.specs.Bytes.{word_at}
-use Rattle.laws.specs.Choice.{if◌then◌else◌}
+use Rattle.std.specs.Prelude.{if◌then◌else◌}
 use Rattle.calls.specs.declared.Call.{Call as Plain}
 use Rattle.sector.specs.Judge.{good}
 use Rattle.sector.specs.Receive.{received}

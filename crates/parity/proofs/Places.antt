@@ -9,7 +9,7 @@ use lib.Dec.{leb, ltb}
 use lib.ListN.{get_or}
 use borrow.Author.Tests.{lt-ltb, le-ltb}
 use Rattle.laws.specs.Bytes.{Bytes}
-use Rattle.laws.specs.Choice.{if◌then◌else◌}
+use Rattle.std.specs.Prelude.{if◌then◌else◌}
 use Rattle.laws.proofs.Choice.{if_true, if_false, if_case, right_false}
 use Rattle.laws.proofs.Wrap.{lt_or_ge}
 use Rattle.parity.specs.Layout.{p, q, place, value_at}

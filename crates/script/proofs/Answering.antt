@@ -3,7 +3,7 @@ use Rattle.std.proofs.Common.{◌≡◌, ℕ, ◌+◌, ◌-◌, ◌<◌, ◌≤�
 use borrow.Rule.Slice.PartMut.{put_mid, mid_of}
 use borrow.Author.Tests.{not-true, not-false}
 use Rattle.laws.specs.Bytes.{inverted}
-use Rattle.laws.specs.Choice.{if◌then◌else◌}
+use Rattle.std.specs.Prelude.{if◌then◌else◌}
 use Rattle.laws.proofs.Bytes.{length_inverted, getD_inverted}
 use Rattle.laws.proofs.Parts.{put_part}
 use Rattle.laws.proofs.Window.{length_window, get_d_window, length_put, getD_put}

@@ -3,7 +3,7 @@
 use Rattle.std.proofs.Common.{◌≡◌, ℕ, zero, suc, ◌+◌, ◌-◌, ◌%◌, ◌≤◌, Bool, true, false, not, ◌&&◌, ◌||◌, eqb, ltb, leb, List, [], ◌∷◌, ◌++◌, length, take, drop, replicate, sym, refl, ap, ◌∙◌, true≢false, arith, take-append-drop, eq-eqb, ne_eqb, eqb-true}
 use lib.ListN.{length-replicate}
 use borrow.Author.Tests.{lt-leb}
-use Rattle.laws.specs.Choice.{if◌then◌else◌}
+use Rattle.std.specs.Prelude.{if◌then◌else◌}
 use Rattle.laws.proofs.Bytes.{complement_bits, bytes_replicate}
 use Rattle.laws.proofs.Fill.{take_replicate, drop_replicate}
 use Rattle.laws.proofs.Choice.{if_case, if_true, if_false, right_false}

@@ -3,7 +3,7 @@ use Rattle.std.proofs.Common.{◌≡◌, get_or, add-one, drop_of_length-le, ℕ
 use borrow.Author.Tests.{eq-eqb, ne_eqb}
 use lib.Seq.{append_snoc, drop-cons}
 use borrow.Rule.Slice.PartMut.{put_mid}
-use Rattle.laws.specs.Choice.{if◌then◌else◌}
+use Rattle.std.specs.Prelude.{if◌then◌else◌}
 use Rattle.laws.proofs.Choice.{if_false}
 use Rattle.laws.proofs.Ends.{take_put, drop_put}
 use Rattle.syntax.specs.Print.{room, over}

@@ -2,7 +2,7 @@
 -- machine of demand 3; and the disc's side of it (paper 02, asks 1 and 4). Assumes nothing.
 use Rattle.std.specs.Prelude.{◌≡◌, ℕ, ◌+◌, ◌-◌, ◌<◌, ◌≤◌, Bool, true, false, ◌&&◌, ◌||◌, leb, List, [], ◌∷◌, length, replicate, ◌==◌, ◌≢◌, bit_xor, nat_le, nat_lt, slice_index}
 use Rattle.laws.specs.Bytes.{Bytes, inverted}
-use Rattle.laws.specs.Choice.{if◌then◌else◌}
+use Rattle.std.specs.Prelude.{if◌then◌else◌}
 use Rattle.calls.specs.declared.Call.{Call as Lent-nothing}
 use Rattle.sector.specs.Address.{valid}
 use Rattle.reply.specs.Reply.{answer}

@@ -2,7 +2,7 @@
 -- last, and a run of bytes that are inverted, sync bytes too. They are the disc's and not the chip's. Assumes nothing.
 use Rattle.std.specs.Prelude.{ℕ, ◌+◌, ◌%◌, Bool, ◌&&◌, List, ◌++◌, take, drop, replicate, ◌==◌, nat_le}
 use Rattle.laws.specs.Bytes.{inverted}
-use Rattle.laws.specs.Choice.{if◌then◌else◌}
+use Rattle.std.specs.Prelude.{if◌then◌else◌}
 use Rattle.sector.specs.Calls.{seal_sector, no_subheader}
 use Rattle.sector.specs.declared.Address.{Address}
 use Rattle.sector.specs.declared.Subheader.{Subheader}

@@ -7,7 +7,7 @@ use lib.ListN.{length, get_or}
 use native.Mathlib.Omega.{arith}
 use lib.Dec.{leb, ltb, eqb}
 use borrow.Author.Tests.{leb-true, le-leb, lt-leb, lt-ltb, le-ltb, ltb-true, ne_eqb}
-use Rattle.laws.specs.Choice.{if◌then◌else◌}
+use Rattle.std.specs.Prelude.{if◌then◌else◌}
 use Rattle.laws.proofs.Choice.{left_true, right_true, if_case}
 use Rattle.laws.proofs.Bytes.{bytes_nil, bytes_cons}
 use Rattle.laws.specs.Bytes.{Bytes}

@@ -12,7 +12,7 @@ use lib.Seq.{take-add, take-suc, take_all, drop-drop, ext_get_or}
 use borrow.Author.Tests.{eqb-true, eqb-false, le-ltb, not-true, not-false}
 use Rattle.laws.specs.Bytes.{Bytes}
 use Rattle.laws.specs.Numbers.{weight}
-use Rattle.laws.specs.Choice.{if◌then◌else◌}
+use Rattle.std.specs.Prelude.{if◌then◌else◌}
 use Rattle.laws.proofs.Choice.{right_false}
 use Rattle.laws.proofs.Fill.{zeros}
 use Rattle.laws.proofs.Same.{same_is}

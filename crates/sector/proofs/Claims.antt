@@ -9,7 +9,7 @@ use lib.Dec.{eqb}
 use lib.ListN.{length, take, drop, replicate, length-replicate}
 use borrow.Author.Tests.{ne_eqb}
 use Rattle.laws.specs.Bytes.{Bytes}
-use Rattle.laws.specs.Choice.{if◌then◌else◌}
+use Rattle.std.specs.Prelude.{if◌then◌else◌}
 use Rattle.laws.specs.Same.{same}
 use Rattle.laws.proofs.Bytes.{bytes_nil, bytes_cons, bytes_replicate}
 use Rattle.laws.proofs.Tests.{both_false}

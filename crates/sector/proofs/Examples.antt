@@ -10,7 +10,7 @@ use borrow.Author.Tests.{ne_eqb, eqb-true, eqb-false}
 use lib.ListN.{length, take, drop, get_or, replicate, length-append, length-replicate}
 use lib.Seq.{take_at, drop_at}
 use Rattle.laws.specs.Bytes.{Bytes}
-use Rattle.laws.specs.Choice.{if◌then◌else◌}
+use Rattle.std.specs.Prelude.{if◌then◌else◌}
 use Rattle.laws.specs.Same.{same}
 use Rattle.laws.proofs.Bytes.{bytes_nil, bytes_cons, bytes_append, bytes_of, bytes_replicate}
 use Rattle.laws.proofs.Choice.{left_false, right_false, if_case}

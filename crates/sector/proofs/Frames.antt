@@ -10,7 +10,7 @@ use lib.ListN.{length, take, drop, get_or, replicate, length-append, length-drop
 use lib.Seq.{length-take-le, take-append-le, take-append-add, drop-append-add, drop-append-le, drop-drop, take-take, take_at, drop_at, get_or-take}
 use borrow.Rule.Slice.PartMut.{put_mid, mid_of}
 use Rattle.laws.specs.Bytes.{Bytes}
-use Rattle.laws.specs.Choice.{if◌then◌else◌}
+use Rattle.std.specs.Prelude.{if◌then◌else◌}
 use Rattle.laws.proofs.Bytes.{four_bytes, bytes_nil, bytes_cons, bytes_append, bytes_take, bytes_drop, bytes_of, bytes_replicate}
 use Rattle.laws.proofs.Choice.{if_case, if_true, if_false}
 use Rattle.laws.proofs.Parts.{put_rest, mid_rest}

@@ -10,7 +10,7 @@ use lib.Dec.{leb}
 use lib.ListN.{length, take, get_or, drop, set, drop_of_length-le}
 use lib.Seq.{append_snoc, take-set-le, take-suc-set}
 use borrow.Author.Tests.{leb-true, not-false}
-use Rattle.laws.specs.Choice.{if◌then◌else◌}
+use Rattle.std.specs.Prelude.{if◌then◌else◌}
 use Rattle.laws.proofs.Choice.{left_true}
 use Rattle.laws.proofs.Ends.{drop_next}
 use Rattle.syntax.specs.Grammar.{digit, mark, grows, form, next, onward}

@@ -4,15 +4,24 @@
 usage: python3 tools/respell.py [--dry]        at the top of the repository, after the kit's port.py
 
 Functions, lemmas, fields and constructors that are declared in specs/ and proofs/ with dashes get underscores, types and facts get camel case:
-`start-blocks` is `start_blocks`, `Shut-out` is `ShutOut`. A name keeps its dashes where the new spelling would fall together with another name that
-is in use; those are printed. Names that Rattle makes in a function's folder (Proof.antt) are not declared here and stay, but for uses of the renamed.
-Must-fail edits are turned as the files that they edit, and README and docs/ within backquotes.
+`start-blocks` is `start_blocks`, `Shut-out` is `ShutOut`; so do the names of FURTHER, whose declarations are aliases, variables or run over several lines.
+A name keeps its dashes where the new spelling is in use or is a name of the code, or where two would fall together; those are printed. Names that Rattle makes
+in a function's folder are not declared here and stay, but for uses of the renamed. Clauses, imports and names within backquotes in src/ are turned
+with the rest, must-fail edits as the files that they edit, and README.md and docs/*.md within backquotes; pages in folders of docs/ are left as they were.
 """
 import collections
 import glob
 import os
 import re
 import sys
+
+# Names that the patterns below do not see, and one that is a parameter of the code as well, where nothing is hidden by it.
+FURTHER = """
+Lent-nothing Read-of abort-run aborted-in-block as-sector as-word at-18 bad-then-restarted counted-on d-is disc-line e-is edc-same eight-and-nine first-20 from-16
+in-it in-range inside-it is-sound mode-2 moves-blocks n-is no-b not-1 not-15 not-2 not-3 on-disc one-bad one-book one-good one-to-seven or-read past-24 past-address
+past-sync refines-sound represented-look represented-word represents-stored same-words sector-reasons set-by size-x size-y skip-run whole-ring words-handed
+written-too yes-b
+""".split()
 
 TOKEN = re.compile(r"[A-Za-z_α-ωΑ-Ω₀-₉][\w'′₀-₉]*(?:-[\w'′₀-₉]+)*")
 DECLARED = re.compile(r"^(?:unfoldable |abbrev |pub |record |data )*([^\s:(){}]+)(?:\s+[({].*[)}])?\s*:(?:\s|$)")
@@ -29,10 +38,14 @@ def read(path):
         return f.read()
 
 
+def in_a_functions_folder(path):
+    return path.split("/")[2] == "proofs" and path.count("/") > 3 and os.path.basename(path) in ("Proof.antt", "Invariants.antt", "Answers.antt")
+
+
 def declared():
     names = collections.defaultdict(set)
     for path in antt_files():
-        if os.path.basename(path) == "Proof.antt":
+        if in_a_functions_folder(path):
             continue
         for line in read(path).split("\n"):
             if line.startswith("use ") or line.lstrip().startswith("--"):
@@ -113,8 +126,10 @@ def main(argv):
     code = taken_in_code()
     renamed, kept = {}, []
     new = collections.Counter(spelled(n) for n in names if "-" in n)
+    for name in FURTHER:
+        renamed[name] = spelled(name)
     for name in sorted(names):
-        if "-" not in name or not re.match(r"^[\w'′₀-₉-]+$", name):
+        if name in renamed or "-" not in name or not re.match(r"^[\w'′₀-₉-]+$", name):
             continue
         to = spelled(name)
         why = None

@@ -1,6 +1,5 @@
 -- Host words one after the other (paper 01, "Host and transfers"): so many single words, until one is refused. Assumes nothing.
-use Rattle.std.specs.Prelude.{ℕ, zero, suc, ◌+◌, ◌-◌, ◌&&◌, List, [], ◌∷◌, ◌++◌, eqb, length, drop}
-use Rattle.std.specs.Prelude.{if◌then◌else◌}
+use Rattle.std.specs.Prelude.{ℕ, zero, suc, ◌+◌, ◌-◌, ◌&&◌, List, [], ◌∷◌, ◌++◌, eqb, length, drop, if◌then◌else◌}
 use Rattle.chip.specs.Chip.{ring_fits, at_position}
 use Rattle.chip.specs.Calls.{word_told}
 use Rattle.chip.specs.Sound.{sound}

@@ -1,7 +1,6 @@
 -- What each call answers, and the ring it leaves, on every input (paper 01, "Registers", "The ring", "Host and transfers"). Assumes nothing.
-use Rattle.std.specs.Prelude.{ℕ, ◌+◌, ◌*◌, ◌&&◌, not, List, eqb, length, take, drop}
+use Rattle.std.specs.Prelude.{ℕ, ◌+◌, ◌*◌, ◌&&◌, not, List, eqb, length, take, drop, if◌then◌else◌}
 use Rattle.laws.specs.Bytes.{word_at}
-use Rattle.std.specs.Prelude.{if◌then◌else◌}
 use Rattle.calls.specs.declared.Call.{Call}
 use Rattle.sector.specs.Receive.{Received, received}
 use Rattle.controller.specs.Calls.{stepped}

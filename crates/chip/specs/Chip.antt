@@ -1,7 +1,6 @@
 -- The chip record: the controller and the ring's place; its opening, and how a controller step becomes an answer (paper 01, "Reply numbers",
 -- "The ring"). Assumes nothing.
-use Rattle.std.specs.Prelude.{ℕ, ◌*◌, Bool, ◌&&◌, List, leb, eqb, length}
-use Rattle.std.specs.Prelude.{if◌then◌else◌}
+use Rattle.std.specs.Prelude.{ℕ, ◌*◌, Bool, ◌&&◌, List, leb, eqb, length, if◌then◌else◌}
 use Rattle.reply.specs.Reply.{refusal, answer}
 use Rattle.controller.specs.Fields.{◌▹◌, position≔}
 use Rattle.controller.specs.State.{initial}

@@ -25,7 +25,7 @@ use Rattle.claims.proofs.Starts.{given}
 use Rattle.claims.proofs.Runs.{calls, ◌then◌, opened, frame, first, second}
 use Rattle.claims.proofs.Mode1.{judged_own, length_sealed, received_sealed}
 
-module _ (S : Simulation the_chip the_row) (refines : Follows S) (refines-sound : (s : State) (r : Row) → Refines s r → sound s.chip ≡ true) where
+module _ (S : Simulation the_chip the_row) (refines : Follows S) (refines_sound : (s : State) (r : Row) → Refines s r → sound s.chip ≡ true) where
   module _ (u : List ℕ) (size : length u ≡ 2352) where
     cases_met_by : CasesMet
     unfolding row_step stepped concluded settled registers.write registers.write_bicctl registers.write_acctl registers.write_ctrl0 registers.write_asctrl registers.write_ttc host_command set_window set_expected
@@ -33,19 +33,19 @@ module _ (S : Simulation the_chip the_row) (refines : Follows S) (refines-sound 
         record {
           reach4 =
               reached S refines 3 (omega arith) (omega arith) (λ s. Given4 s.chip) (calls [] (opened 3)) λ s h.
-              record { sound_record = refines-sound s _ h; idle = simp h.controller };
+              record { sound_record = refines_sound s _ h; idle = simp h.controller };
           -- DECEN is taken low
           reach7 =
               reached S refines 3 (omega arith) (omega arith) (λ s. Given7 s.chip) (first u size then second u size then calls (write 0x0A 0x00 ∷ []) _) λ s h.
-              record { sound_record = refines-sound s _ h; idle = simp h.controller; decen = simp h.controller; two = simp h.controller };
+              record { sound_record = refines_sound s _ h; idle = simp h.controller; decen = simp h.controller; two = simp h.controller };
           reach8 =
               reached S refines 3 (omega arith) (omega arith) (λ s. Given8 s.chip) (first u size then second u size) λ s h.
-              record { sound_record = refines-sound s _ h; idle = simp h.controller; acmen = simp h.controller; two = simp h.controller };
+              record { sound_record = refines_sound s _ h; idle = simp h.controller; acmen = simp h.controller; two = simp h.controller };
           -- a window, ADCEN and STWCEN, BSY, TTC
           reach9 =
               reached S refines 3 (omega arith) (omega arith) (λ s. GivenStart s.chip (with_ttc 2 5 0 1024 true 0))
               (first u size then second u size then calls (window 16 1024 ∷ write 0x18 0x48 ∷ command 0 ∷ write 0x9F 5 ∷ []) _) λ s h.
-              given s.chip (with_ttc 2 5 0 1024 true 0) _ (refines-sound s _ h) h.controller
+              given s.chip (with_ttc 2 5 0 1024 true 0) _ (refines_sound s _ h) h.controller
               (record {
                 idle = refl;
                 unreceiving = refl;
@@ -65,7 +65,7 @@ module _ (S : Simulation the_chip the_row) (refines : Follows S) (refines-sound 
               (calls (write 0x9A 0x20 ∷ write 0x9C 0x60 ∷ plain (SetExpected (frame 74)) ∷ write 0x0A 0x80 ∷ []) (opened 3)) λ s h. (
                 sealed (frame 74) u,
                 record {
-                  sound_record = refines-sound s _ h;
+                  sound_record = refines_sound s _ h;
                   whole = h.represents.whole;
                   decen = simp h.controller;
                   unheld = simp h.controller;

@@ -302,20 +302,20 @@ module _ (c : Controller) where
 
   -- a register is read where it is one of the list
   module _ (reg : ℕ) where
-    record Read-of (b : Bool) (s : Step) : Type 0 where
+    record ReadOf (b : Bool) (s : Step) : Type 0 where
       found : Answers c ((not b, 2) ∷ []) s
 
-    abbrev or-read : (b : Bool) (v : ℕ) {x : Bool} {s : Step} → Read-of x s → Read-of (if b then true else x) (if b then replied c Stay v else s)
-    or-read true v f = record { found = miss (false, 2) [] _ refl (accepted c Stay v) }
-    or-read false v f = f
+    abbrev or_read : (b : Bool) (v : ℕ) {x : Bool} {s : Step} → ReadOf x s → ReadOf (if b then true else x) (if b then replied c Stay v else s)
+    or_read true v f = record { found = miss (false, 2) [] _ refl (accepted c Stay v) }
+    or_read false v f = f
 
-    reads : (ring : RingFacts) → Read-of (one_of reg read_registers) (read c reg ring)
+    reads : (ring : RingFacts) → ReadOf (one_of reg read_registers) (read c reg ring)
     unfolding read
     reads ring =
-        or-read (eqb reg 0x12) _ (or-read (eqb reg 0x18) _ (or-read (eqb reg 0x24) _ (or-read (eqb reg 0x25) _ (or-read (eqb reg 0x30) _
-        (or-read (eqb reg 0x31) _ (or-read (eqb reg 0x32) _ (or-read (eqb reg 0x34) _ (or-read (eqb reg 0x35) _ (or-read (eqb reg 0x37) _
-        (or-read (eqb reg 0x38) _ (or-read (eqb reg 0x3A) _ (or-read (eqb reg 0x3B) _ (or-read (eqb reg 0x80) _ (or-read (eqb reg 0x9A) _
-        (or-read (eqb reg 0x9B) _ (or-read (eqb reg 0x9C) _ (or-read (eqb reg 0x9D) _ (or-read (eqb reg 0x9F) _
+        or_read (eqb reg 0x12) _ (or_read (eqb reg 0x18) _ (or_read (eqb reg 0x24) _ (or_read (eqb reg 0x25) _ (or_read (eqb reg 0x30) _
+        (or_read (eqb reg 0x31) _ (or_read (eqb reg 0x32) _ (or_read (eqb reg 0x34) _ (or_read (eqb reg 0x35) _ (or_read (eqb reg 0x37) _
+        (or_read (eqb reg 0x38) _ (or_read (eqb reg 0x3A) _ (or_read (eqb reg 0x3B) _ (or_read (eqb reg 0x80) _ (or_read (eqb reg 0x9A) _
+        (or_read (eqb reg 0x9B) _ (or_read (eqb reg 0x9C) _ (or_read (eqb reg 0x9D) _ (or_read (eqb reg 0x9F) _
         (record { found = hit (true, 2) [] refl refl })))))))))))))))))))
 
   -- named calls and the host's
@@ -405,17 +405,17 @@ module _ (c : Chip) where
 
   -- a sector: its number first
   module _ (ring x : List ℕ) where
-    abbrev sector-reasons : Reasons
-    sector-reasons =
+    abbrev sector_reasons : Reasons
+    sector_reasons =
         (not (sound c && ring_fits c ring && eqb (length x) 2352), 1)
         ∷ (not c.controller.buffering.decen, 7)
         ∷ (c.controller.counts.held, 8)
         ∷ (at_stop c.controller (full c.place), 9)
         ∷ []
 
-    sector_numbered : Numbered sector-reasons (sector_number c ring x)
+    sector_numbered : Numbered sector_reasons (sector_number c ring x)
     unfolding sector_number admission
-    sector_numbered = numbered sector-reasons refl
+    sector_numbered = numbered sector_reasons refl
 
     counted_number : (j : Judgement) → (concluded (counted c.controller j)).reply.number ≡ 0
     unfolding counted
@@ -424,21 +424,21 @@ module _ (c : Chip) where
         ∙ if_case (λ (s : Step). s.reply.number ≡ 0) (good j) _ _ (λ _. refl) (λ _. refl)
 
     record Lends (t : Told) (y : List ℕ) : Type 0 where
-      replies : Replies c sector-reasons t
+      replies : Replies c sector_reasons t
       kept : (t.reply.number ≡ 0 → ⊥) → y ≡ ring
 
     sector_lends : Lends (sector_told c ring x) (sector_ring c ring x)
     unfolding sector_told sector_ring
     sector_lends = by (sector_number c ring x) (eqb (sector_number c ring x) 0) refl sector_numbered
       where
-        by : (k : ℕ) (e : Bool) → eqb k 0 ≡ e → Numbered sector-reasons k
+        by : (k : ℕ) (e : Bool) → eqb k 0 ≡ e → Numbered sector_reasons k
             → Lends (if e then finished c.place (concluded (counted c.controller (received_by c x).judgement)) else chip.refused c k)
             (if e then stored ring c.place.b (received_by c x).bytes else ring)
         by k true e n =
             let z = counted_number (received_by c x).judgement in
             record {
               replies = record {
-                lowest = subst (Lowest sector-reasons) (eqb-true k 0 e ∙ sym z) n.lowest;
+                lowest = subst (Lowest sector_reasons) (eqb-true k 0 e ∙ sym z) n.lowest;
                 most = omega arith;
                 refusal = λ some. absurd (some z);
               };

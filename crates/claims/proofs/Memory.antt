@@ -57,5 +57,5 @@ same_answers (c ∷ cs) s t r f g e =
     (same_answers cs (chip_step c s) (chip_step c t) (row_step c r) (refined_step s r f c) (refined_step t r g c) both.1)
 
 pub memory_free : MemoryFree the_chip
-memory_free n low high x y size-x size-y cs =
-    same_answers cs _ _ _ (refines_opened n low high x size-x) (refines_opened n low high y size-y) refl
+memory_free n low high x y size_x size_y cs =
+    same_answers cs _ _ _ (refines_opened n low high x size_x) (refines_opened n low high y size_y) refl

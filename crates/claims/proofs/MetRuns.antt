@@ -41,9 +41,9 @@ module _ (u : List ℕ) (size : length u ≡ 2352) where
   unfolding row_answer row_step stepped concluded settled admission counted next byte_count start reading.read registers.write registers.write_bicctl registers.write_acctl registers.write_ctrl0 registers.write_asctrl registers.write_astrg set_window host_word host_command ended data_ended sectors.encoded with_parity framed body
   row_met =
       record {
-        words-handed = by_row (first u size then calls (transfer 12 2 ++ word ∷ word ∷ []) _);
-        bad-then-restarted = by_row (first u size then restarted then calls (read 0x9D ∷ transfer 14 1 ++ word ∷ write 0x17 0x04 ∷ word ∷ []) _);
-        aborted-in-block =
+        words_handed = by_row (first u size then calls (transfer 12 2 ++ word ∷ word ∷ []) _);
+        bad_then_restarted = by_row (first u size then restarted then calls (read 0x9D ∷ transfer 14 1 ++ word ∷ write 0x17 0x04 ∷ word ∷ []) _);
+        aborted_in_block =
             by_row (first u size then second u size then calls (transfer 14 2 ++ word ∷ srst ∷ command 0 ∷ write 0x17 0x04 ∷ word ∷ []) _);
         smaller_stops = by_row (first u size then second u size then decoded u size 2 _ _ (own u size 2));
         larger_stores =
@@ -56,9 +56,9 @@ module _ (S : Simulation the_chip the_row) where
   met u size =
       let m = row_met u size in
       record {
-        words-handed = by_simulation S (omega arith) (omega arith) refl m.words-handed;
-        bad-then-restarted = by_simulation S (omega arith) (omega arith) refl m.bad-then-restarted;
-        aborted-in-block = by_simulation S (omega arith) (omega arith) refl m.aborted-in-block;
+        words_handed = by_simulation S (omega arith) (omega arith) refl m.words_handed;
+        bad_then_restarted = by_simulation S (omega arith) (omega arith) refl m.bad_then_restarted;
+        aborted_in_block = by_simulation S (omega arith) (omega arith) refl m.aborted_in_block;
         smaller_stops = by_simulation S (omega arith) (omega arith) refl m.smaller_stops;
         larger_stores = by_simulation S (omega arith) (omega arith) refl m.larger_stores;
       }

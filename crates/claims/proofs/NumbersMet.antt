@@ -51,14 +51,14 @@ module _ (u : List ℕ) (size : length u ≡ 2352) where
   unfolding row_answer row_step stepped concluded settled set_window sectors.encoded with_parity framed body
   row_numbers =
       record {
-        one-to-seven = refusing;
-        eight-and-nine = by_row (first u size then held then calls (window 12 2 ∷ look ∷ []) _);
+        one_to_seven = refusing;
+        eight_and_nine = by_row (first u size then held then calls (window 12 2 ∷ look ∷ []) _);
       }
 
 pub numbers_met : NumbersMetClaim
 numbers_met u size =
     let rows = row_numbers u size in
     record {
-      one-to-seven = by_simulation chip_simulates (omega arith) (omega arith) refl rows.one-to-seven;
-      eight-and-nine = by_simulation chip_simulates (omega arith) (omega arith) refl rows.eight-and-nine;
+      one_to_seven = by_simulation chip_simulates (omega arith) (omega arith) refl rows.one_to_seven;
+      eight_and_nine = by_simulation chip_simulates (omega arith) (omega arith) refl rows.eight_and_nine;
     }

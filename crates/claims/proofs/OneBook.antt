@@ -48,15 +48,15 @@ same_word (sector x) b a d rs ss p q n e = e
 same_word look b a d rs ss p q n e = e
 
 module _ (M N : Machine) where
-  one-book :
+  one_book :
       (cs : List Call) (s : M.State) (t : N.State) (b : Book) → Faithful M cs s b → Faithful N cs t b
       → map number (answers M cs s) ≡ map number (answers N cs t) → to_words cs (answers M cs s) ≡ to_words cs (answers N cs t)
-  one-book [] s t b f g e = refl
-  one-book (c ∷ cs) s t b f g e =
+  one_book [] s t b f g e = refl
+  one_book (c ∷ cs) s t b f g e =
       let n : number (M.answer c s) ≡ number (N.answer c t) = cc in
       let ns : map number (answers M cs (M.step c s)) ≡ map number (answers N cs (N.step c t)) = cc in
       same_word c b (M.answer c s) (N.answer c t) _ _ f.0 g.0 n
-      (one-book cs (M.step c s) (N.step c t) (feed c (number (N.answer c t)) b)
+      (one_book cs (M.step c s) (N.step c t) (feed c (number (N.answer c t)) b)
       (subst (λ (k : ℕ). Faithful M cs (M.step c s) (feed c k b)) n f.2) g.2 ns)
 
   -- N has demand 3 and gives other words than M
@@ -70,6 +70,6 @@ module _ (M N : Machine) where
       let n = right.given x size in
       differ
       (ap (to_words cs) (sym m)
-      ∙ one-book cs (M.opened 3 x) (N.opened 3 x) first_book (d.words 3 (omega arith) (omega arith) x size cs) (e.words 3 (omega arith) (omega arith) x size cs)
+      ∙ one_book cs (M.opened 3 x) (N.opened 3 x) first_book (d.words 3 (omega arith) (omega arith) x size cs) (e.words 3 (omega arith) (omega arith) x size cs)
       (ap (map number) m ∙ same ∙ ap (map number) (sym n))
       ∙ ap (to_words cs) n)

@@ -34,7 +34,7 @@ zeros_given =
       other = λ e. let z : ◌≡◌ {A = ℕ} 1 0 = e in omega arith;
     }
 
-module _ (S : Simulation the_chip the_row) (refines : Follows S) (refines-sound : (s : State) (r : Row) → Refines s r → sound s.chip ≡ true) where
+module _ (S : Simulation the_chip the_row) (refines : Follows S) (refines_sound : (s : State) (r : Row) → Refines s r → sound s.chip ≡ true) where
   module _ (u : List ℕ) (size : length u ≡ 2352) where
     pins_met_by : PinsMet
     unfolding row_step stepped concluded settled named.set_window
@@ -45,7 +45,7 @@ module _ (S : Simulation the_chip the_row) (refines : Follows S) (refines-sound 
               reached S refines 3 (omega arith) (omega arith) (λ s. GivenLook s.chip s.ring)
               (first u size then calls (set_window 16 1024 ∷ []) _) λ s h.
               record {
-                sound_record = refines-sound s _ h;
+                sound_record = refines_sound s _ h;
                 whole = h.represents.whole;
                 one = simp h.controller;
                 offset = simp h.controller;

@@ -95,11 +95,11 @@ module _ (u : List ℕ) (k v : ℕ) (h : GivenCode u k v) where
   abbrev restarted : Row
   restarted = record { controller = decoding 0 ▹ judgement≔ address_alone; blocks = 3; row = [] }
 
-  abbrev one-good : Row
-  one-good = filled 1 (encoded (frame 0) u ∷ [])
+  abbrev one_good : Row
+  one_good = filled 1 (encoded (frame 0) u ∷ [])
 
-  abbrev one-bad : Row
-  one-bad = record {
+  abbrev one_bad : Row
+  one_bad = record {
     controller = decoding 1 ▹ bufc≔ 2 ▹ judgement≔ (record { sync = false; mode = false; edc = true; address = false }) ▹ held≔ true;
     blocks = 3;
     row = encoded (frame 0) u ∷ [];
@@ -113,17 +113,17 @@ module _ (u : List ℕ) (k v : ℕ) (h : GivenCode u k v) where
   unfolding admission
   barred = decoded u h.size 0 misplaced _ (own u h.size 0)
 
-  good : Ran the_row (disc u 0 ∷ []) restarted (ok ∷ []) one-good
+  good : Ran the_row (disc u 0 ∷ []) restarted (ok ∷ []) one_good
   unfolding concluded settled admission counted next
   good = decoded u h.size 0 restarted _ (own u h.size 0)
 
-  coded : Ran the_row (damaged u 1 k v ∷ []) one-good (replied 0 0x40 ∷ []) one-bad
+  coded : Ran the_row (damaged u 1 k v ∷ []) one_good (replied 0 0x40 ∷ []) one_bad
   unfolding concluded settled admission counted
-  coded = taken (scrambled changed) changed one-good _ (length_scrambled changed whole) received_so
+  coded = taken (scrambled changed) changed one_good _ (length_scrambled changed whole) received_so
 
-  barred_too : Ran the_row (disc u 1 ∷ []) one-bad (replied 8 0 ∷ []) one-bad
+  barred_too : Ran the_row (disc u 1 ∷ []) one_bad (replied 8 0 ∷ []) one_bad
   unfolding admission
-  barred_too = decoded u h.size 1 one-bad _ (own u h.size 1)
+  barred_too = decoded u h.size 1 one_bad _ (own u h.size 1)
 
   pub why_kept :
       Gives (telling_why the_row) 3
@@ -136,7 +136,7 @@ module _ (u : List ℕ) (k v : ℕ) (h : GivenCode u k v) where
         then telling bad then telling barred
         then calls {M = telling_why the_row} (read 0x80 ∷ srst ∷ restart) misplaced
         then telling good then telling coded then telling barred_too
-        then calls {M = telling_why the_row} (plain Reset ∷ []) one-bad).told;
+        then calls {M = telling_why the_row} (plain Reset ∷ []) one_bad).told;
   }
 
 -- looks, and one behind a block that was taken

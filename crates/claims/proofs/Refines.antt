@@ -49,7 +49,7 @@ use Rattle.chip.proofs.Answers.{looked_is}
 use Rattle.chip.proofs.Sounds.{facts_sound}
 use Rattle.claims.specs.Demand3.{masked}
 use Rattle.claims.specs.Refinement.{Refines, Simulation}
-use Rattle.claims.proofs.Represented.{step_n, represents_outcome, represents-stored, represented-word, represented-look}
+use Rattle.claims.proofs.Represented.{step_n, represents_outcome, represents_stored, represented_word, represented_look}
 
 -- Told the ring's block numbers or 0, a step differs only in the result of reading 24h or 3Ah.
 
@@ -245,14 +245,14 @@ module _ (c : Controller) (p : Place) (x : List ℕ) (w : List (List ℕ))
               valid = v;
               controller = refl;
               blocks = step_n p (sector_step s R).event;
-              represents = rw ev (represents-stored s R h t p refl x rep);
+              represents = rw ev (represents_stored s R h t p refl x rep);
             }
         by false e v = record { valid = v; controller = refl; blocks = refl; represents = rep }
 
     -- the oldest block
     pub answer_look : chip_answer look S ≡ row_answer look R
     unfolding chip_answer row_answer
-    answer_look = ap seen (looked_is K x ∙ rw (chip_sound, chip_fits) (represented-look R h p x rep))
+    answer_look = ap seen (looked_is K x ∙ rw (chip_sound, chip_fits) (represented_look R h p x rep))
 
     pub word_is : word_told K x ≡ record { chip = (finished p (word_step R)).chip; word = word_by (host_word c).reply.number (next_word K x) }
     unfolding word_told
@@ -271,7 +271,7 @@ module _ (c : Controller) (p : Place) (x : List ℕ) (w : List (List ℕ))
         by : (e : Bool) → eqb (host_word c).reply.number 0 ≡ e
             → of_word (if e then Handed (next_word K x) else Refused (host_word c).reply.number)
             ≡ (if e then handed word_of else refused (host_word c).reply.number)
-        by true e = ap handed (represented-word R h p x rep (word_running c (eqb-true _ _ e)))
+        by true e = ap handed (represented_word R h p x rep (word_running c (eqb-true _ _ e)))
         by false e = refl
 
     step_word : Refines (chip_step word S) (row_step word R)

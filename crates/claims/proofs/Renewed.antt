@@ -48,15 +48,15 @@ renewed n low high x size cs =
     let h = from_opening n low high x size cs in
     let f = h.refines in
     let told = reset_told s.chip (refined_sound s h.row f) in
-    let n-is : s.chip.place.n ≡ n = f.blocks ∙ h.blocks in
-    let whole : length s.ring ≡ n * 2560 = f.represents.whole ∙ ap (λ (k : ℕ). k * 2560) n-is in
+    let n_is : s.chip.place.n ≡ n = f.blocks ∙ h.blocks in
+    let whole : length s.ring ≡ n * 2560 = f.represents.whole ∙ ap (λ (k : ℕ). k * 2560) n_is in
     let opened : chip_step (plain Reset) s ≡ the_chip.opened n s.ring =
     ap (λ (t : Told). over t.chip s.ring) told
-    ∙ ap (λ (k : ℕ). over (record { controller = initial; place = ring.opened k }) s.ring) n-is
+    ∙ ap (λ (k : ℕ). over (record { controller = initial; place = ring.opened k }) s.ring) n_is
     ∙ ap (λ (c : Chip). over c s.ring) (sym (opened_chip n low high)) in
     record {
       done = ap of_told told;
       whole = whole;
       opened = opened;
-      alike = λ y size-y ds. ap (answers the_chip ds) opened ∙ memory_free n low high s.ring y whole size-y ds;
+      alike = λ y size_y ds. ap (answers the_chip ds) opened ∙ memory_free n low high s.ring y whole size_y ds;
     }

@@ -71,7 +71,7 @@ represents_outcome call c p ring row r s (refusal k nonzero) = r
 represents_outcome call c p ring row r s (done d e v f) = represents_moved c d p ring row r e f.moves f.lands
 
 -- a sector that is stored
-module _ (x : List ℕ) (s : Row) (h : Valid s) (t : Taken x s) (p : Place) (n-is : p.n ≡ s.blocks) (ring : List ℕ)
+module _ (x : List ℕ) (s : Row) (h : Valid s) (t : Taken x s) (p : Place) (n_is : p.n ≡ s.blocks) (ring : List ℕ)
     (r : Represents p s.controller.counts.tcc s.controller.counts.bufc ring s.row)
   where
     -- nothing is held, so that every filled block is good
@@ -81,14 +81,14 @@ module _ (x : List ℕ) (s : Row) (h : Valid s) (t : Taken x s) (p : Place) (n-i
         let b = h.invariant.consistent.buffered in
         omega arith
 
-    pub represents-stored :
+    pub represents_stored :
         Represents (place_step p Store) (sector_step x s).controller.counts.tcc (sector_step x s).controller.counts.bufc
         (stored ring p.b (received s.controller.expected x).bytes) (grown s.controller x s.row)
-    represents-stored =
+    represents_stored =
         let k = sector_stored x s h t in
         let bytes = (received s.controller.expected x).bytes in
         let size = length_received s.controller.expected x t.size in
-        let room : s.controller.counts.bufc + 1 < p.n = rw n-is (sector_room x s h t) in
+        let room : s.controller.counts.bufc + 1 < p.n = rw n_is (sector_room x s h t) in
         rw (k.tcc, k.bufc)
         (by (good (received s.controller.expected x).judgement)
         (represents_store_good r bytes room size all_good) (represents_store_bad r bytes room size))
@@ -105,11 +105,11 @@ module _ (x : List ℕ) (s : Row) (h : Valid s) (t : Taken x s) (p : Place) (n-i
 
 module _ (s : Row) (h : Valid s) (p : Place) (ring : List ℕ) (r : Represents p s.controller.counts.tcc s.controller.counts.bufc ring s.row) where
   -- the word of a transfer that runs
-  pub represented-word :
+  pub represented_word :
       s.controller.transfer.running ≡ true
       → word_at ring (base p.t + s.controller.window.offset + 2 * s.controller.transfer.position)
       ≡ word_at (get_or s.row 0 []) (s.controller.window.offset + 2 * s.controller.transfer.position)
-  represented-word on =
+  represented_word on =
       let m = h.invariant.consistent.running on in
       let o = s.controller.window.offset in
       let w = s.controller.window.words in
@@ -119,12 +119,12 @@ module _ (s : Row) (h : Valid s) (p : Place) (ring : List ℕ) (r : Represents p
       ap (λ (x : ℕ). word_at ring x) (add_assoc (base p.t) o (2 * k)) ∙ represents_word r (o + 2 * k) (omega (arith, m.some, m.good)) (omega arith)
 
   -- a look, without the place and the memory
-  pub represented-look :
+  pub represented_look :
       (if not (eqb s.controller.counts.tcc 0) && not (eqb s.controller.window.words 0)
       then take (2 * s.controller.window.words) (drop (base p.t + s.controller.window.offset) ring)
       else [])
       ≡ looked s
-  represented-look =
+  represented_look =
       let o = s.controller.window.offset in
       let w = s.controller.window.words in
       let c = s.controller.counts.tcc in

@@ -78,8 +78,8 @@ module _ (M R : Machine) (S : Simulation M R) where
   pub simulated : Demand3 R → Demand3 M
   simulated d =
       record {
-        sizes = λ n m low le high x y size-x size-y cs.
-            agree_over cs _ _ _ _ false (S.opened n low (omega arith) x size-x) (S.opened m (omega arith) high y size-y)
-            (d.sizes n m low le high x y size-x size-y cs);
+        sizes = λ n m low le high x y size_x size_y cs.
+            agree_over cs _ _ _ _ false (S.opened n low (omega arith) x size_x) (S.opened m (omega arith) high y size_y)
+            (d.sizes n m low le high x y size_x size_y cs);
         words = λ n low high x size cs. faithful_over cs _ _ _ (S.opened n low high x size) (d.words n low high x size cs);
       }

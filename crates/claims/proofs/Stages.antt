@@ -32,23 +32,23 @@ abbrev pub chip_with : Controller → Place → Chip
 chip_with k p = record { controller = k; place = p }
 
 module _ (step : Call → State → State)
-    (as-sector : (x : List ℕ) (s : State) → step (sector x) s ≡ chip_step (sector x) s)
-    (as-word : (s : State) → step word s ≡ chip_step word s)
-    (k : Controller) (p : Place) (ring : List ℕ) (is-sound : sound (chip_with k p) ≡ true) (fits : length ring ≡ p.n * 2560)
+    (as_sector : (x : List ℕ) (s : State) → step (sector x) s ≡ chip_step (sector x) s)
+    (as_word : (s : State) → step word s ≡ chip_step word s)
+    (k : Controller) (p : Place) (ring : List ℕ) (is_sound : sound (chip_with k p) ≡ true) (fits : length ring ≡ p.n * 2560)
   where
     abbrev M : Machine
     M = record { State = State; opened = the_chip.opened; answer = chip_answer; step = step; facts = the_chip.facts }
 
-    pub on-disc :
+    pub on_disc :
         (u : List ℕ) → length u ≡ 2352 → (f : ℕ) (j : Judgement) → admission k (full p) ≡ 0 → judgement k.expected (encoded (frame f) u) ≡ j
         → Ran M (disc u f ∷ []) (over (chip_with k p) ring) (of_told (finished p (concluded (counted k j))) ∷ [])
         (over (finished p (concluded (counted k j))).chip (stored ring p.b (encoded (frame f) u)))
     unfolding chip_answer chip_step sector_number sector_told sector_ring
-    on-disc u size f j admitted e =
+    on_disc u size f j admitted e =
         let whole = eq-eqb (length ring) (p.n * 2560) fits in
         let long = eq-eqb (length (sealed (frame f) u)) 2352 (length_sealed (frame f) u size) in
         let r = received_sealed (frame f) u size k.expected in
-        record { told = simp (is-sound, whole, long, admitted, r, e); left = as-sector _ _ ∙ simp (is-sound, whole, long, admitted, r, e) }
+        record { told = simp (is_sound, whole, long, admitted, r, e); left = as_sector _ _ ∙ simp (is_sound, whole, long, admitted, r, e) }
 
     pub on_word :
         (w : ℕ) → (host_word k).reply.number ≡ 0 → next_word (chip_with k p) ring ≡ w
@@ -56,12 +56,12 @@ module _ (step : Call → State → State)
     unfolding chip_answer chip_step word_told
     on_word w done e =
         let whole = eq-eqb (length ring) (p.n * 2560) fits in
-        record { told = simp (is-sound, whole, done, e); left = as-word _ ∙ simp (is-sound, whole) }
+        record { told = simp (is_sound, whole, done, e); left = as_word _ ∙ simp (is_sound, whole) }
 
 -- a ring of three blocks with one or two sectors stored from block 0 on
-module _ (ring a b : List ℕ) (whole-ring : length ring ≡ 3 * 2560) (size_a : length a ≡ 2352) (size_b : length b ≡ 2352) where
+module _ (ring a b : List ℕ) (whole_ring : length ring ≡ 3 * 2560) (size_a : length a ≡ 2352) (size_b : length b ≡ 2352) where
   pub one_stored : Represents (at 3 0 1 0) 1 1 (stored ring 0 a) (a ∷ [])
-  one_stored = represents_store_good (represents_opened 3 ring (omega arith) (omega arith) whole-ring) a (omega arith) size_a refl
+  one_stored = represents_store_good (represents_opened 3 ring (omega arith) (omega arith) whole_ring) a (omega arith) size_a refl
 
   pub two_stored : Represents (at 3 0 2 1) 2 2 (stored (stored ring 0 a) 1 b) (a ∷ b ∷ [])
   two_stored = represents_store_good one_stored b (omega arith) size_b refl

@@ -197,10 +197,10 @@ needs_lacking c h n = simp (h.sound_record, h.idle, h.unreceiving, refused_5 c.c
 -- by itself, after TTC was written
 
 module _ (c : Chip) (h : GivenStart c (with_mbc 40 31 1176 true 0)) (atten : c.controller.acctl.atten ≡ true) where
-  abbrev counted-on : Controller
-  counted-on = c.controller ▹ ttc≔ 40
+  abbrev counted_on : Controller
+  counted_on = c.controller ▹ ttc≔ 40
 
-  asked_by : Found counted-on (with_ttc 40 40 0 1176 true 31)
+  asked_by : Found counted_on (with_ttc 40 40 0 1176 true 31)
   asked_by =
       record {
         idle = h.idle;
@@ -216,22 +216,22 @@ module _ (c : Chip) (h : GivenStart c (with_mbc 40 31 1176 true 0)) (atten : c.c
         stwcen = h.stwcen;
       }
 
-  set : write c.controller 0x9F 40 c.place.n ≡ step.done counted-on
+  set : write c.controller 0x9F 40 c.place.n ≡ step.done counted_on
   unfolding write write_ttc
   set = simp (h.idle, h.acmen)
 
-  follows : settled counted-on ≡ started counted-on
+  follows : settled counted_on ≡ started counted_on
   unfolding settled
   follows =
-      if_true (counted-on.acctl.atten && not (eqb 40 0) && not (engaged counted-on)) _ _ (simp (atten, h.idle, h.unreceiving))
-      ∙ ap (λ (s : Step). s.controller) (accepted counted-on (with_ttc 40 40 0 1176 true 31) asked_by refl refl)
+      if_true (counted_on.acctl.atten && not (eqb 40 0) && not (engaged counted_on)) _ _ (simp (atten, h.idle, h.unreceiving))
+      ∙ ap (λ (s : Step). s.controller) (accepted counted_on (with_ttc 40 40 0 1176 true 31) asked_by refl refl)
 
-  itself : called c (Write 0x9F 40) ≡ finished c.place (step.done (started counted-on))
+  itself : called c (Write 0x9F 40) ≡ finished c.place (step.done (started counted_on))
   unfolding called stepped concluded
   itself = simp (h.sound_record, set) (ap (λ (k : Controller). finished c.place (step.done k)) follows)
 
   by_itself : Leaves c (Write 0x9F 40) 26 0xF8 0x10
-  by_itself = left_by c (Write 0x9F 40) (started counted-on) itself (marked counted-on (with_ttc 40 40 0 1176 true 31) asked_by refl)
+  by_itself = left_by c (Write 0x9F 40) (started counted_on) itself (marked counted_on (with_ttc 40 40 0 1176 true 31) asked_by refl)
 
   pub begins_by_itself : (ring : List ℕ) → Begins (plain (Write 0x9F 40)) (over c ring)
   unfolding chip_answer chip_step

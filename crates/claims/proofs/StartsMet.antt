@@ -103,7 +103,7 @@ at_last s k fine whole e z r l =
     let fits = eq-eqb (length s.ring) (s.chip.place.n * 2560) whole in
     record { done = simp (fine, fits, e, z); runs = simp (fine, fits, e) r; new = inr (rw e l) }
 
-module _ (S : Simulation the_chip the_row) (refines : Follows S) (refines-sound : (s : State) (r : Row) → Refines s r → sound s.chip ≡ true) where
+module _ (S : Simulation the_chip the_row) (refines : Follows S) (refines_sound : (s : State) (r : Row) → Refines s r → sound s.chip ≡ true) where
   module _ (u : List ℕ) (size : length u ≡ 2352) where
     -- a row of 64 blocks that serves
     abbrev ready : Bool → Asked → Row
@@ -116,7 +116,7 @@ module _ (S : Simulation the_chip the_row) (refines : Follows S) (refines-sound 
     leads P atten a room run f =
         reached S refines 64 (omega arith) (omega arith) P
         (calls set_up (opened 64) then many u size 64 a.tcc (omega arith) (omega arith) then run) λ s h.
-        f s (given s.chip a (serving atten a) (refines-sound s _ h) h.controller (found_serving atten a)) h.controller
+        f s (given s.chip a (serving atten a) (refines_sound s _ h) h.controller (found_serving atten a)) h.controller
 
     starts_met_by : StartsMet
     unfolding row_step stepped concluded settled registers.write registers.write_bicctl registers.write_acctl registers.write_ctrl0 registers.write_asctrl registers.write_mbtc0 registers.write_ttc host_command named.set_window byte_count start host_word ended data_ended
@@ -141,7 +141,7 @@ module _ (S : Simulation the_chip the_row) (refines : Follows S) (refines-sound 
           without_stwcen_ttc = leads _ false (with_ttc 40 40 0 1176 false 0) (omega arith) (calls _ _) (λ s h _. h);
           unready =
               reached S refines 3 (omega arith) (omega arith) _ (calls [] (opened 3)) λ s h. (
-                record { sound_record = refines-sound s _ h; idle = simp h.controller; unreceiving = simp h.controller },
+                record { sound_record = refines_sound s _ h; idle = simp h.controller; unreceiving = simp h.controller },
                 simp h.controller,
                 simp h.controller,
                 simp h.controller,
@@ -155,7 +155,7 @@ module _ (S : Simulation the_chip the_row) (refines : Follows S) (refines-sound 
           begins_at_last =
               reached S refines 3 (omega arith) (omega arith) _
               (first u size then second u size then calls (write 0x9C 0xE1 ∷ set_window 12 1 ∷ write 0x18 0x48 ∷ command 0 ∷ write 0x9F 2 ∷ []) _) λ s h. (
-                at_last s _ (refines-sound s _ h) h.represents.whole h.controller refl refl (refl, refl),
+                at_last s _ (refines_sound s _ h) h.represents.whole h.controller refl refl (refl, refl),
                 ap (λ (k : Controller). k.transfer.running) h.controller,
                 ap (λ (k : Controller). k.asctrl.stwcen) h.controller,
               );

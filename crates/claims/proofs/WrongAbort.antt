@@ -33,7 +33,7 @@ use Rattle.claims.specs.Wrong.{ShutOut, abort_step, taking_abort}
 use Rattle.claims.proofs.MetRuns.{row_met}
 use Rattle.claims.proofs.OneBook.{shut_out}
 use Rattle.claims.proofs.Runs.{calls, ◌then◌, frame, decoding, own}
-use Rattle.claims.proofs.Stages.{chip_with, on-disc, on_word, one_stored, two_stored}
+use Rattle.claims.proofs.Stages.{chip_with, on_disc, on_word, one_stored, two_stored}
 use Rattle.claims.proofs.Mode1.{length_encoded}
 
 -- the controller when the transfer has started, and after an abort that takes the half-read block
@@ -72,8 +72,8 @@ module _ (x u : List ℕ) (fits : length x ≡ 3 * 2560) (size : length u ≡ 23
   unfolding abort_step chip_answer chip_step opened called sound stepped concluded settled admission counted next byte_count start registers.write registers.write_bicctl registers.write_acctl registers.write_ctrl0 registers.write_asctrl registers.write_astrg set_window host_word host_command sectors.encoded with_parity framed body
   run =
       (calls set_up (taking_abort.opened 3 x)
-      then on-disc abort_step (λ _ _. refl) (λ _. refl) (decoding 0) (at 3 0 0 0) x refl fits u size 0 _ refl (own u size 0)
-      then on-disc abort_step (λ _ _. refl) (λ _. refl) (decoding 1) (at 3 0 1 0) ring1 refl one.whole u size 1 _ refl (own u size 1)
+      then on_disc abort_step (λ _ _. refl) (λ _. refl) (decoding 0) (at 3 0 0 0) x refl fits u size 0 _ refl (own u size 0)
+      then on_disc abort_step (λ _ _. refl) (λ _. refl) (decoding 1) (at 3 0 1 0) ring1 refl one.whole u size 1 _ refl (own u size 1)
       then calls (transfer 14 2) (over (chip_with (decoding 2) (at 3 0 2 1)) ring2)
       then on_word abort_step (λ _ _. refl) (λ _. refl) moving (at 3 0 2 1) ring2 refl two.whole 256 refl (represents_word two 14 (omega arith) (omega arith))
       then calls (srst ∷ command 0 ∷ write 0x17 0x04 ∷ []) (over (chip_with (moving ▹ position≔ 1) (at 3 0 2 1)) ring2)
@@ -83,7 +83,7 @@ module _ (x u : List ℕ) (fits : length x ≡ 3 * 2560) (size : length u ≡ 23
 module _ (D : Demand3 the_row) where
   by : (u : List ℕ) → length u ≡ 2352 → ShutOut taking_abort
   by u size =
-      shut_out taking_abort the_row D (row_met u size).aborted-in-block (record { given = λ x fits. run x u fits size }) refl
+      shut_out taking_abort the_row D (row_met u size).aborted_in_block (record { given = λ x fits. run x u fits size }) refl
       (λ e. let z : ◌≡◌ {A = ℕ} 257 256 = cc in omega arith)
 
   pub taking_abort_fails : ShutOut taking_abort

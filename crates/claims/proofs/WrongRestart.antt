@@ -33,7 +33,7 @@ use Rattle.claims.specs.Runs.{encoded, disc, set_up, restart, transfer, ok, Give
 use Rattle.claims.specs.Wrong.{ShutOut, restart_step, bad_restart}
 use Rattle.claims.proofs.OneBook.{shut_out}
 use Rattle.claims.proofs.Runs.{calls, ◌then◌, opened, by_row, decoded, frame, decoding, filled, own, not_expected}
-use Rattle.claims.proofs.Stages.{chip_with, on-disc, on_word, one_stored, two_stored}
+use Rattle.claims.proofs.Stages.{chip_with, on_disc, on_word, one_stored, two_stored}
 use Rattle.claims.proofs.Mode1.{length_encoded}
 
 -- the controller when the transfer has started
@@ -66,9 +66,9 @@ module _ (x u : List ℕ) (fits : length x ≡ 3 * 2560) (size : length u ≡ 23
   unfolding restart_step chip_answer chip_step chip.opened called sound stepped concluded settled admission counted next byte_count start registers.write registers.write_bicctl registers.write_acctl registers.write_ctrl0 registers.write_asctrl registers.write_astrg set_window host_word host_command sectors.encoded with_parity framed body
   run =
       (calls set_up (bad_restart.opened 3 x)
-      then on-disc restart_step (λ _ _. refl) (λ _. refl) (decoding 0) (at 3 0 0 0) x refl fits u size 5 _ refl (not_expected u size)
+      then on_disc restart_step (λ _ _. refl) (λ _. refl) (decoding 0) (at 3 0 0 0) x refl fits u size 5 _ refl (not_expected u size)
       then calls restart (over (chip_with (decoding 0 ▹ bufc≔ 1 ▹ judgement≔ address_alone ▹ held≔ true) (at 3 0 1 0)) ring1)
-      then on-disc restart_step (λ _ _. refl) (λ _. refl) (decoding 0 ▹ judgement≔ address_alone) (at 3 0 1 0) ring1 refl one.whole u size 0 _ refl (own u size 0)
+      then on_disc restart_step (λ _ _. refl) (λ _. refl) (decoding 0 ▹ judgement≔ address_alone) (at 3 0 1 0) ring1 refl one.whole u size 0 _ refl (own u size 0)
       then calls (transfer 14 1) (over (chip_with (decoding 1) (at 3 0 2 1)) ring2)
       then on_word restart_step (λ _ _. refl) (λ _. refl) moving (at 3 0 2 1) ring2 refl two.whole 261 refl
       (represents_word two 14 (omega arith) (omega arith))).told

@@ -40,7 +40,7 @@ module _ (k : ℕ) where
   module _ (S : Simulation the_chip the_row) (D : Demand3 the_row) where
     by : (u : List ℕ) → length u ≡ 2352 → ShutOut (constant_word k)
     by u size =
-        shut_out (constant_word k) the_row D (row_met u size).words-handed (given (met S u size).words-handed) refl (λ e. let z : ◌≡◌ {A = ℕ} 512 256 = cc in omega arith)
+        shut_out (constant_word k) the_row D (row_met u size).words_handed (given (met S u size).words_handed) refl (λ e. let z : ◌≡◌ {A = ℕ} 512 256 = cc in omega arith)
 
     pub constant_word_fails : ShutOut (constant_word k)
     constant_word_fails = by (replicate 2352 0) (length-replicate {A = ℕ} 2352 0)

@@ -3,8 +3,7 @@
 -- reasons stand here in a table of their own, in the words of the definitions (`engaged`, `start_switches`, `only`, ..), so that the claim says more than
 -- that a definition refuses as it refuses. What it does not say: what an accepted call does (demand 2); that the code meets the definitions, which is
 -- each function's contract; and what a line of the bench or an exported call answers, which are contracts too. Assumes nothing.
-use Rattle.std.specs.Prelude.{ℕ, ◌+◌, ◌≤◌, ◌≡◌, Bool, true, false, ◌&&◌, ◌||◌, not, List, [], ◌∷◌, ◌⊎◌, ltb, leb, eqb, length}
-use Rattle.std.specs.Prelude.{if◌then◌else◌}
+use Rattle.std.specs.Prelude.{ℕ, ◌+◌, ◌≤◌, ◌≡◌, Bool, true, false, ◌&&◌, ◌||◌, not, List, [], ◌∷◌, ◌⊎◌, ltb, leb, eqb, length, if◌then◌else◌}
 use Rattle.calls.specs.declared.Call.{Call as Plain}
 use Rattle.calls.specs.declared.Call.TheVariants.{Write, Read, SetBlock, SetWindow, SetExpected, PacketByte, Reset, Command, PacketWord, Status, Srst}
 use Rattle.reply.specs.Reply.{refusal, answer}

@@ -1,7 +1,6 @@
 -- Demand 3 (paper 01, "Demand 3 in full"; paper 02, ask 1), stated of any machine with the chip's calls. Assumes nothing.
-use Rattle.std.specs.Prelude.{ℕ, ◌+◌, ◌*◌, ◌≤◌, ◌≡◌, Bool, true, false, ◌&&◌, ◌||◌, not, List, [], ◌∷◌, eqb, length, get_or}
+use Rattle.std.specs.Prelude.{ℕ, ◌+◌, ◌*◌, ◌≤◌, ◌≡◌, Bool, true, false, ◌&&◌, ◌||◌, not, List, [], ◌∷◌, eqb, length, get_or, if◌then◌else◌}
 use Rattle.laws.specs.Bytes.{word_at}
-use Rattle.std.specs.Prelude.{if◌then◌else◌}
 use Rattle.calls.specs.Choice.{if_write, if_read, if_set_block}
 use Rattle.outcomes.specs.Book.{Book, feed, first_book, limited}
 use Rattle.outcomes.specs.Machine.{Call, plain, sector, look, word, Answer, replied, handed, refused, seen, number, Machine}

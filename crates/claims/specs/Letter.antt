@@ -1,8 +1,7 @@
 -- Three claims in plain words beside demand 3 (paper 01, "Demand 3 in full"), stated of any machine with the chip's calls. MemoryFree: no answer
 -- depends on what lay in the memory; of the answers of one size it says more than demand 3, which masks two registers and ends at a stop. Accounted and
 -- NeverAgain follow from demand 3's book alone: each word is of an accepted good sector, and no sector that left comes back. Assumes nothing.
-use Rattle.std.specs.Prelude.{ℕ, ◌+◌, ◌*◌, ◌<◌, ◌≤◌, ◌≡◌, ◌&&◌, List, [], ◌∷◌, ◌++◌, map, ◌⊎◌, eqb, length, take, drop, get_or}
-use Rattle.std.specs.Prelude.{if◌then◌else◌}
+use Rattle.std.specs.Prelude.{ℕ, ◌+◌, ◌*◌, ◌<◌, ◌≤◌, ◌≡◌, ◌&&◌, List, [], ◌∷◌, ◌++◌, map, ◌⊎◌, eqb, length, take, drop, get_or, if◌then◌else◌}
 use Rattle.laws.specs.Bytes.{word_at}
 use Rattle.calls.specs.Choice.{if_write, if_reset}
 use Rattle.sector.specs.Receive.{received}

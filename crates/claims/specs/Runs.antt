@@ -70,17 +70,17 @@ telling_why M =
 
 pub record Met (M : Machine) (u : List ℕ) : Type 0 where
   -- two words of one sector: minute and second, frame and mode
-  pub words-handed :
+  pub words_handed :
       Gives M 3 (set_up ++ disc u 0 ∷ transfer 12 2 ++ word ∷ word ∷ [])
       (ok ∷ ok ∷ ok ∷ ok ∷ ok ∷ ok ∷ ok ∷ ok ∷ handed 512 ∷ handed 256 ∷ [])
   -- frame 5 where 1 is expected is bad: its result is HCEI, and the chip, held, answers 8; after a restart frame 1 is counted (TCC, 9Dh, is
   -- 2), and the words are those of frames 0 and 1
-  pub bad-then-restarted :
+  pub bad_then_restarted :
       Gives M 3
       (set_up ++ disc u 0 ∷ disc u 5 ∷ disc u 1 ∷ restart ++ disc u 1 ∷ read 0x9D ∷ transfer 14 1 ++ word ∷ write 0x17 0x04 ∷ word ∷ [])
       (ok ∷ ok ∷ ok ∷ ok ∷ replied 0 1 ∷ replied 8 0 ∷ ok ∷ ok ∷ ok ∷ replied 0 2 ∷ ok ∷ ok ∷ ok ∷ ok ∷ handed 256 ∷ ok ∷ handed 257 ∷ [])
   -- SRST after the first of two words of frame 0: the next transfer hands over the same word, not that of frame 1
-  pub aborted-in-block :
+  pub aborted_in_block :
       Gives M 3 (set_up ++ disc u 0 ∷ disc u 1 ∷ transfer 14 2 ++ word ∷ srst ∷ command 0 ∷ write 0x17 0x04 ∷ word ∷ [])
       (ok ∷ ok ∷ ok ∷ ok ∷ ok ∷ ok ∷ ok ∷ ok ∷ ok ∷ handed 256 ∷ ok ∷ ok ∷ ok ∷ handed 256 ∷ [])
   -- a third sector: 9 with three blocks, stored with four

@@ -5,9 +5,8 @@
 -- address was checked, and it counts: its user bytes were read and not checked. What it does not say: that a sector counts only once and in the order of
 -- the calls, which is Accounted and NeverAgain (Letter.antt); anything of parity, which is not judged; and that a sector with a right EDC has no wrong
 -- byte, nor that its kind is the one it was sealed as (FoundClaim and TwoKindsClaim of the sectors). Assumes nothing.
-use Rattle.std.specs.Prelude.{ℕ, ◌+◌, ◌*◌, ◌%◌, ◌<◌, ◌≤◌, ◌≡◌, true, List, [], ◌∷◌, ◌++◌, ◌⊎◌, eqb, length, take, drop, get_or, replicate}
+use Rattle.std.specs.Prelude.{ℕ, ◌+◌, ◌*◌, ◌%◌, ◌<◌, ◌≤◌, ◌≡◌, true, List, [], ◌∷◌, ◌++◌, ◌⊎◌, eqb, length, take, drop, get_or, replicate, if◌then◌else◌}
 use Rattle.laws.specs.Bytes.{word_at}
-use Rattle.std.specs.Prelude.{if◌then◌else◌}
 use Rattle.calls.specs.Choice.{if_reset}
 use Rattle.sector.specs.Judge.{sync_holds, code_right, address_holds}
 use Rattle.sector.specs.Layout.{kind_read, layout_read}

@@ -2,8 +2,7 @@
 -- machine with the chip's calls: a look shows the window of the oldest sector that waits, 9Dh the number of sectors that wait, 9Bh one more
 -- while a bad one is held; a sector that is stored is answered by its two bits, and 80h shows those of the last one. The history is the calls, their
 -- reply numbers and, for held, their results. Assumes nothing.
-use Rattle.std.specs.Prelude.{ℕ, ◌+◌, ◌*◌, ◌≤◌, ◌≡◌, Bool, true, false, ◌&&◌, ◌||◌, List, [], ◌∷◌, eqb, length, take, drop, get_or}
-use Rattle.std.specs.Prelude.{if◌then◌else◌}
+use Rattle.std.specs.Prelude.{ℕ, ◌+◌, ◌*◌, ◌≤◌, ◌≡◌, Bool, true, false, ◌&&◌, ◌||◌, List, [], ◌∷◌, eqb, length, take, drop, get_or, if◌then◌else◌}
 use Rattle.laws.specs.Numbers.{weight}
 use Rattle.calls.specs.Choice.{if_write, if_reset}
 use Rattle.calls.specs.declared.Call.TheVariants.{Read}

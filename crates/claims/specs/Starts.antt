@@ -5,7 +5,7 @@ use Rattle.std.specs.Prelude.{ℕ, ◌+◌, ◌*◌, ◌/◌, ◌<◌, ◌≤◌
 use Rattle.calls.specs.declared.Call.TheVariants.{Write}
 use Rattle.controller.specs.Transfer.{most_blocks, start_blocks, blocks_lacking}
 use Rattle.controller.specs.declared.state.Controller.{Controller}
-use Rattle.outcomes.specs.Machine.{Call, plain, sector, look, word, number as number_of_lem}
+use Rattle.outcomes.specs.Machine.{Call, plain, sector, look, word, number as number_of}
 use Rattle.chip.specs.Chip.{refused}
 use Rattle.chip.specs.Sound.{sound}
 use Rattle.chip.specs.Calls.{called}
@@ -36,7 +36,7 @@ Last look c = ⊥
 
 -- a start falls into a call, by 17h or by itself: the call is done, a transfer runs after it, and before it none ran or one that it ended
 pub record Begins (call : Call) (s : State) : Type 0 where
-  pub done : number_of_lem (chip_answer call s) ≡ 0
+  pub done : number_of (chip_answer call s) ≡ 0
   pub runs : (chip_step call s).chip.controller.transfer.running ≡ true
   pub new : (s.chip.controller.transfer.running ≡ false) ⊎ Last call s.chip.controller
 

@@ -1,8 +1,7 @@
 -- Four machines that make a slip, each the chip but for one call: three that paper 01 names ("What the contracts must pin", "Slips seen on other
 -- boards"), and one that keeps the facts of a refused sector (paper 02, ask 1). proofs/WrongRestart.antt, WrongAbort.antt, WrongWord.antt and
 -- WrongFacts.antt show that demand 3 shuts them out. Assumes nothing.
-use Rattle.std.specs.Prelude.{ℕ, ◌-◌, ◌&&◌, not, eqb}
-use Rattle.std.specs.Prelude.{if◌then◌else◌}
+use Rattle.std.specs.Prelude.{ℕ, ◌-◌, ◌&&◌, not, eqb, if◌then◌else◌}
 use Rattle.sector.specs.Receive.{received}
 use Rattle.controller.specs.Fields.{◌▹◌, tcc≔, bufc≔, judgement≔}
 use Rattle.controller.specs.declared.step.Event.TheVariants.{Advance}

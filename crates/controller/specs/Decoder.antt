@@ -1,6 +1,5 @@
 -- A sector from the disc (paper 01, "The ring"; 001, BICCTL (9Ah), BUFC (9Bh), TCC (9Dh), TARSTA (80h); paper 02, ask 1). Assumes nothing.
-use Rattle.std.specs.Prelude.{ℕ, ◌+◌, Bool, true, not, leb}
-use Rattle.std.specs.Prelude.{if◌then◌else◌}
+use Rattle.std.specs.Prelude.{ℕ, ◌+◌, Bool, true, not, leb, if◌then◌else◌}
 use Rattle.sector.specs.Address.{next}
 use Rattle.sector.specs.Judge.{good, tarsta_byte}
 use Rattle.sector.specs.declared.Judgement.{Judgement}

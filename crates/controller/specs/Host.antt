@@ -1,6 +1,5 @@
 -- The host's side (paper 01, "Host and transfers"; 001, ASCTRL (18h), ATSTA (37h), APKSTA (3Dh)). Assumes nothing.
-use Rattle.std.specs.Prelude.{ℕ, ◌+◌, ◌-◌, ◌*◌, ◌/◌, ◌%◌, true, false, ◌&&◌, ◌||◌, not, [], ◌∷◌, ltb, eqb, replicate, set}
-use Rattle.std.specs.Prelude.{if◌then◌else◌}
+use Rattle.std.specs.Prelude.{ℕ, ◌+◌, ◌-◌, ◌*◌, ◌/◌, ◌%◌, true, false, ◌&&◌, ◌||◌, not, [], ◌∷◌, ltb, eqb, replicate, set, if◌then◌else◌}
 use Rattle.controller.specs.Fields.{◌▹◌, tcc≔, bufc≔, ttc≔, apkten≔, bsy≔, drdy≔, dsc≔, drq≔, corr≔, check≔, aterr≔, atint≔, atcmd≔, running≔, left≔, position≔, apkt≔, fpkt≔, receiving≔, received≔, bytes≔, hirq≔}
 use Rattle.controller.specs.Read.{atsta_byte}
 use Rattle.controller.specs.Step.{replied, done, guarded}

@@ -1,6 +1,5 @@
 -- Reading a register (paper 01, "Registers"). T (24h) and the last decoded block (3Ah) are the ring's, which tells them. Assumes nothing.
-use Rattle.std.specs.Prelude.{ℕ, ◌+◌, eqb}
-use Rattle.std.specs.Prelude.{if◌then◌else◌}
+use Rattle.std.specs.Prelude.{ℕ, ◌+◌, eqb, if◌then◌else◌}
 use Rattle.laws.specs.Numbers.{weight}
 use Rattle.sector.specs.Judge.{tarsta_byte}
 use Rattle.controller.specs.Step.{refused, replied}

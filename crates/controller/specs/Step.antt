@@ -1,7 +1,6 @@
 -- What a controller call answers (paper 01, "Reply numbers"): a refusal gives its number and a zero result and changes nothing; a call that is
 -- done gives 0 and its result, 0 where none is stated. Assumes nothing.
-use Rattle.std.specs.Prelude.{ℕ, Bool, List, [], ◌∷◌}
-use Rattle.std.specs.Prelude.{if◌then◌else◌}
+use Rattle.std.specs.Prelude.{ℕ, Bool, List, [], ◌∷◌, if◌then◌else◌}
 use Rattle.reply.specs.Reply.{refusal, answer}
 use Rattle.controller.specs.declared.state.Controller.{Controller}
 use Rattle.controller.specs.declared.step.Step.{Step}

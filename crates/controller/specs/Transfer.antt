@@ -1,6 +1,5 @@
 -- Transfers (paper 01, "Host and transfers"; paper 02, ask 3; 001, ASTRG (17h), ACCTL (9Ch), TTC (9Fh); SFF-8020 for the interrupt reasons). Assumes nothing.
-use Rattle.std.specs.Prelude.{ℕ, ◌+◌, ◌-◌, ◌*◌, ◌/◌, ◌%◌, min, Bool, true, false, ◌&&◌, ◌||◌, not, [], ◌∷◌, ltb, eqb}
-use Rattle.std.specs.Prelude.{if◌then◌else◌}
+use Rattle.std.specs.Prelude.{ℕ, ◌+◌, ◌-◌, ◌*◌, ◌/◌, ◌%◌, min, Bool, true, false, ◌&&◌, ◌||◌, not, [], ◌∷◌, ltb, eqb, if◌then◌else◌}
 use Rattle.controller.specs.Fields.{◌▹◌, mbc≔, atint≔, atblo≔, atbhi≔, bsy≔, drdy≔, drq≔, corr≔, check≔, hirq≔, running≔, left≔, position≔, apkten≔, ascen≔}
 use Rattle.controller.specs.Step.{done, guarded}
 use Rattle.controller.specs.declared.state.Controller.{Controller}

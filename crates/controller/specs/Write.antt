@@ -1,6 +1,5 @@
 -- Writing a register (paper 01, "Registers"): one definition for each, its tests in the order of the reply numbers. Assumes nothing.
-use Rattle.std.specs.Prelude.{ℕ, ◌+◌, ◌-◌, ◌%◌, true, false, ◌&&◌, ◌||◌, not, [], ◌∷◌, ltb, eqb}
-use Rattle.std.specs.Prelude.{if◌then◌else◌}
+use Rattle.std.specs.Prelude.{ℕ, ◌+◌, ◌-◌, ◌%◌, true, false, ◌&&◌, ◌||◌, not, [], ◌∷◌, ltb, eqb, if◌then◌else◌}
 use Rattle.controller.specs.Bits.{bit, only, differs}
 use Rattle.controller.specs.Fields.{◌▹◌, tcc≔, bufc≔, ttc≔, held≔, decen≔, blimen≔, blims≔, buflim≔, acctl≔, asctrl≔, drdy≔, dsc≔, drq≔, corr≔, check≔, ascsta≔, adsc≔, task≔, mbc≔, apkt≔}
 use Rattle.controller.specs.Step.{refused, replied, done, guarded}

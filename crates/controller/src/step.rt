@@ -58,15 +58,15 @@ pub fn done(controller: Controller) -> Step
     }
 }
 
-pub fn replied(controller: Controller, event: Event, res: u16) -> Step
-    ensures { result ≡ replied controller event res }
+pub fn replied(controller: Controller, event: Event, value: u16) -> Step
+    ensures { result ≡ replied controller event value }
 {
     Step {
         controller: controller,
         event: event,
         reply: Reply {
             number: 0,
-            result: res,
+            result: value,
         },
     }
 }

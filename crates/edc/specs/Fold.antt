@@ -1,8 +1,7 @@
 -- Words of the private functions' contracts: the register moved on with no data, and fed with words of 64 bits.
 -- No public contract cites them. Assumes nothing.
-use Rattle.std.specs.Prelude.{◌≡◌, Bool, true, ◌&&◌, List, ℕ, zero, suc, ◌+◌, ◌*◌, ◌/◌, ◌%◌, ◌^◌, ◌<◌, ◌≤◌, eqb, get_or}
+use Rattle.std.specs.Prelude.{◌≡◌, Bool, true, ◌&&◌, List, ℕ, zero, suc, ◌+◌, ◌*◌, ◌/◌, ◌%◌, ◌^◌, ◌<◌, ◌≤◌, eqb, get_or, if◌then◌else◌}
 use Rattle.std.specs.Int.Bits.{bit_xor}
-use Rattle.std.specs.Prelude.{if◌then◌else◌}
 use Rattle.edc.specs.Edc.{feedback}
 
 -- the register after one bit with no data, and after n

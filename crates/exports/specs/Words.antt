@@ -1,8 +1,7 @@
 -- What each exported call returns: a reply as one number, the reply number in the low byte and the result above it (paper 01, "Reply
 -- numbers"). What a call leaves in the sector is sector's to say, and what lines leave script's. Assumes nothing.
-use Rattle.std.specs.Prelude.{List, ℕ, get_or}
+use Rattle.std.specs.Prelude.{List, ℕ, get_or, if◌then◌else◌}
 use Rattle.laws.specs.Bytes.{pair}
-use Rattle.std.specs.Prelude.{if◌then◌else◌}
 use Rattle.sector.specs.declared.Address.{Address}
 use Rattle.reply.specs.Reply.{refusal, answer}
 use Rattle.reply.specs.declared.Reply.{Reply}

@@ -16,10 +16,10 @@ pub(crate) fn at(minute: u16, second: u16, frame: u16) -> Address
 }
 
 // The reply number in the low byte, the result above it.
-pub(crate) fn packed(number: u8, res: u16) -> u32
-    ensures { result ≡ packed number res }
+pub(crate) fn packed(number: u8, value: u16) -> u32
+    ensures { result ≡ packed number value }
 {
-    (number as u32) + 256 * (res as u32)
+    (number as u32) + 256 * (value as u32)
 }
 
 // An address as the result: the frame in the result's low byte, then the second, then the minute.

@@ -10,7 +10,7 @@ use Rattle.laws.specs.Numbers.{weight}
 use Rattle.laws.proofs.Choice.{left_true, right_true}
 
 pub clash : {P : Type 0} (b : Bool) → b ≡ false → b ≡ true → P
-clash b no-b yes-b = absurd (false≢true (sym no-b ∙ yes-b))
+clash b no_b yes_b = absurd (false≢true (sym no_b ∙ yes_b))
 
 pub contra : (a b : Bool) → (a ≡ true → b ≡ true) → b ≡ false → a ≡ false
 contra true b h e = absurd (false≢true (sym e ∙ h refl))
@@ -80,8 +80,8 @@ weightless b w h = simp h
 
 -- a switch that was not set is set exactly where it is set by something
 pub exactly : (inside was is : Bool) → (inside ≡ true → was ≡ false → is ≡ true) → (inside ≡ false → is ≡ was) → was ≡ false → is ≡ inside
-exactly true was is set-by stays unset = set-by refl unset
-exactly false was is set-by stays unset = stays refl ∙ unset
+exactly true was is set_by stays unset = set_by refl unset
+exactly false was is set_by stays unset = stays refl ∙ unset
 
 -- outside of a run of numbers
 pub out_of_run : (a b k : ℕ) → (leb a k && ltb k b) ≡ false → (k < a) ⊎ (b ≤ k)

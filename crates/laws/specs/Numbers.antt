@@ -1,6 +1,5 @@
 -- Numbers made of switches. Assumes nothing.
-use Rattle.std.specs.Prelude.{Bool, List, [], ◌∷◌, ℕ, ◌+◌, ◌*◌}
-use Rattle.std.specs.Prelude.{if◌then◌else◌}
+use Rattle.std.specs.Prelude.{Bool, List, [], ◌∷◌, ℕ, ◌+◌, ◌*◌, if◌then◌else◌}
 
 -- a switch as the bit of weight w
 abbrev pub weight : Bool → ℕ → ℕ

@@ -32,7 +32,7 @@ use Rattle.outcomes.specs.Book.{book_of, fed, row≔, k≔}
 use Rattle.outcomes.specs.Invariant.{Running, Consistent}
 use Rattle.outcomes.specs.Machine.{plain, word}
 use Rattle.outcomes.proofs.Consistent.{statusless, consistent_quiet, consistent_decoder, consistent_idle, consistent_packet, consistent_initial}
-use Rattle.outcomes.proofs.Outcome.{Outcome, done, numbered, Passed, by_tests, no, stays, free, quiet, moves-blocks}
+use Rattle.outcomes.proofs.Outcome.{Outcome, done, numbered, Passed, by_tests, no, stays, free, quiet, moves_blocks}
 use Rattle.outcomes.proofs.Writes.{written}
 
 -- the end steps change only ASCTRL, the status, the task registers and HIRQ
@@ -182,10 +182,10 @@ module _ (n : ℕ) (c : Controller) (h : Consistent c) (limit : c.buffering.bufl
       λ e.
       let l = ltb-false _ _ e in
       if_case (Outcome n word c) (ltb 1 c.transfer.left) _ _
-      (λ f. moves-blocks n c h limit word (block_taken c) (Advance 1) (consistent_block c on h (ltb-true _ _ f)) (taken c on h, refl, refl) (λ row _. fed_last c on h row l) refl refl tt)
+      (λ f. moves_blocks n c h limit word (block_taken c) (Advance 1) (consistent_block c on h (ltb-true _ _ f)) (taken c on h, refl, refl) (λ row _. fed_last c on h row l) refl refl tt)
       (λ f.
       let x = block_taken c ▹ running≔ false in
-      moves-blocks n c h limit word (ended x) (Advance 1)
+      moves_blocks n c h limit word (ended x) (Advance 1)
       (consistent_ended x (both_false false c.packet.receiving refl (unreceiving c on h)) (consistent_last c on h (ltb-false _ _ f)))
       (taken c on h, ap (λ (y : Controller). y.counts.tcc) (ended_same x), ap (λ (y : Controller). y.counts.bufc) (ended_same x))
       (λ row _. ended_book x (drop 1 row) ∙ fed_last c on h row l)
@@ -234,7 +234,7 @@ module _ (n : ℕ) (c : Controller) (h : Consistent c) (limit : c.buffering.bufl
       let w = weightless c.counts.held 1 (contra c.counts.held c.buffering.decen h.held f.0) in
       let b = h.buffered in
       let bufc : c.counts.bufc ≡ 0 = omega arith in
-      moves-blocks n c h limit _ c (Move t) h (tcc, bufc, tcc, bufc) (λ row size. ap (book_of c) (sym (no_row row (size ∙ tcc)))) refl refl (leb-false _ _ below)
+      moves_blocks n c h limit _ c (Move t) h (tcc, bufc, tcc, bufc) (λ row size. ap (book_of c) (sym (no_row row (size ∙ tcc)))) refl refl (leb-false _ _ below)
 
   window_set : (o w : ℕ) → By (SetWindow o w) (set_window c o w)
   unfolding set_window

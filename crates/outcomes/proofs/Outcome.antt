@@ -133,10 +133,10 @@ module _ (n : ℕ) (c : Controller) (h : Consistent c) (limit : c.buffering.bufl
       stays d 0 (consistent_quiet c d q same h) (ap (λ (k : Counts). k.tcc) counts) (ap (λ (k : Counts). k.bufc) counts) shows limits (rw buflim limit)
 
   -- a call that moves blocks and changes the counts alone
-  pub moves-blocks :
+  pub moves_blocks :
       (d : Controller) (e : Event) → Consistent d → Moves e c d
       → ((row : List (List ℕ)) → length row ≡ c.counts.tcc → book_of d (moved e row) ≡ fed call (book_of c row))
       → d.buffering.blims ≡ limited call 0 c.buffering.blims → d.buffering.buflim ≡ c.buffering.buflim → Lands n e
       → Outcome n call c (replied d e 0)
-  moves-blocks d e consistent moves shows limits buflim lands =
+  moves_blocks d e consistent moves shows limits buflim lands =
       done d e 0 (record { consistent = consistent; moves = moves; shows = shows; limits = limits; buflim = rw buflim limit; lands = lands })

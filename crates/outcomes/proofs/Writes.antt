@@ -24,7 +24,7 @@ use Rattle.outcomes.specs.Book.{Book, book_of, fed, limited}
 use Rattle.outcomes.specs.Invariant.{Consistent}
 use Rattle.outcomes.specs.Machine.{plain}
 use Rattle.outcomes.proofs.Consistent.{consistent_decoder, consistent_idle}
-use Rattle.outcomes.proofs.Outcome.{Outcome, numbered, Passed, by_tests, no, stays, free, quiet, moves-blocks}
+use Rattle.outcomes.proofs.Outcome.{Outcome, numbered, Passed, by_tests, no, stays, free, quiet, moves_blocks}
 use Rattle.outcomes.proofs.Starts.{consistent_started, started_same, started_book}
 
 -- TCINCEN stays high with DECEN
@@ -48,7 +48,7 @@ module _ (n : ℕ) (c : Controller) (h : Consistent c) (limit : c.buffering.bufl
 
   decoder_low : By 0x0A (decoder_off c)
   decoder_low =
-      moves-blocks n c h limit _ _ (Rewind c.counts.tcc)
+      moves_blocks n c h limit _ _ (Rewind c.counts.tcc)
       (consistent_decoder c c.counts.tcc c.counts.tcc false c.expected
       (record { decen = false; blimen = c.buffering.blimen; blims = c.buffering.blims; buflim = c.buffering.buflim }) c.judgement
       (omega arith) (omega arith) h.expected (λ (e : false ≡ true). clash false refl e) (λ (e : false ≡ true). clash false refl e) h)
@@ -162,7 +162,7 @@ module _ (n : ℕ) (c : Controller) (h : Consistent c) (limit : c.buffering.bufl
   lowered =
       tested 0x9D ((ltb 255 v, 3) ∷ (c.transfer.running, 4) ∷ (c.buffering.decen, 5) ∷ (ltb c.counts.tcc v, 6) ∷ []) refl _ λ _ off low e.
       let w = weightless c.counts.held 1 (contra c.counts.held c.buffering.decen h.held low) in
-      moves-blocks n c h limit _ _ (Rewind v)
+      moves_blocks n c h limit _ _ (Rewind v)
       (consistent_idle c (record { tcc = v; bufc = v; ttc = c.counts.ttc; held = c.counts.held }) c.acctl c.mbc c.window off
       (omega arith) h.held h.ttc h.uncached h.atlim h.decen h.mbc h.window h)
       (ltb-false _ _ e, refl, refl) (λ _ _. refl) refl refl tt
@@ -182,7 +182,7 @@ module _ (n : ℕ) (c : Controller) (h : Consistent c) (limit : c.buffering.bufl
       tested 0x9E ((ltb c.counts.tcc v, 6) ∷ []) refl _ λ e.
       let b = h.buffered in
       let l : v ≤ c.counts.tcc = ltb-false _ _ e in
-      moves-blocks n c h limit _ _ (Advance v)
+      moves_blocks n c h limit _ _ (Advance v)
       (consistent_idle c (record { tcc = c.counts.tcc - v; bufc = c.counts.bufc - v; ttc = c.counts.ttc; held = c.counts.held }) c.acctl c.mbc c.window off
       (omega arith) h.held h.ttc h.uncached h.atlim h.decen h.mbc h.window h)
       (l, refl, refl) (λ row _. acmen_high high row) refl refl tt

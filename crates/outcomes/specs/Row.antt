@@ -1,8 +1,7 @@
 -- The row machine: a controller, a number of blocks and a row of good sectors, oldest first. It answers and steps by the controller's own
 -- definitions, and has no block numbers and no memory: of what a ring of N blocks is, it knows N alone. Assumes nothing.
-use Rattle.std.specs.Prelude.{ℕ, ◌+◌, ◌*◌, ◌<◌, ◌≤◌, ◌≡◌, ◌&&◌, not, List, [], ◌∷◌, ◌++◌, eqb, length, take, drop, get_or}
+use Rattle.std.specs.Prelude.{ℕ, ◌+◌, ◌*◌, ◌<◌, ◌≤◌, ◌≡◌, ◌&&◌, not, List, [], ◌∷◌, ◌++◌, eqb, length, take, drop, get_or, if◌then◌else◌}
 use Rattle.laws.specs.Bytes.{word_at}
-use Rattle.std.specs.Prelude.{if◌then◌else◌}
 use Rattle.calls.specs.declared.Call.{Call as Plain}
 use Rattle.sector.specs.Judge.{good}
 use Rattle.sector.specs.Receive.{received}

@@ -1,7 +1,6 @@
 -- Which bytes of a sector are a parity word (ECMA-130, Annex A; paper 02, ask 2). Bytes 12 to 2,351 are symbols of two planes: symbol n is byte
 -- 12 + 2 n in one and 13 + 2 n in the other. Assumes nothing.
-use Rattle.std.specs.Prelude.{Bool, ◌&&◌, List, ℕ, ◌+◌, ◌*◌, ◌-◌, ◌/◌, ◌%◌, leb, ltb, get_or}
-use Rattle.std.specs.Prelude.{if◌then◌else◌}
+use Rattle.std.specs.Prelude.{Bool, ◌&&◌, List, ℕ, ◌+◌, ◌*◌, ◌-◌, ◌/◌, ◌%◌, leb, ltb, get_or, if◌then◌else◌}
 
 -- a code: its words in each plane, how many data symbols stand before a word's two parity symbols, and which of the plane's symbols is at
 -- position m of word w

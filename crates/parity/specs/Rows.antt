@@ -1,7 +1,6 @@
 -- What the code's steps over rows of words give; nothing of it is in the promises. Assumes nothing.
-use Rattle.std.specs.Prelude.{◌≡◌, Bool, ◌&&◌, List, ◌⊎◌, ℕ, zero, suc, ◌+◌, ◌*◌, ◌-◌, ◌/◌, ◌%◌, ◌<◌, ◌≤◌, min, eqb, ltb, length, get_or}
+use Rattle.std.specs.Prelude.{◌≡◌, Bool, ◌&&◌, List, ◌⊎◌, ℕ, zero, suc, ◌+◌, ◌*◌, ◌-◌, ◌/◌, ◌%◌, ◌<◌, ◌≤◌, min, eqb, ltb, length, get_or, if◌then◌else◌}
 use Rattle.std.specs.Int.Bits.{bit_xor}
-use Rattle.std.specs.Prelude.{if◌then◌else◌}
 use Rattle.laws.specs.Listed.{listed, all_below}
 use Rattle.parity.specs.Field.{times_x, product, power}
 use Rattle.parity.specs.Word.{sum}

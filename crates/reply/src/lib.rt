@@ -32,11 +32,11 @@ pub fn refuse(number: u8) -> Reply
 }
 
 // Ruled out: one that gives another number than 0, and one that drops the result.
-pub fn answer(res: u16) -> Reply
-    ensures { result ≡ answer res }
+pub fn answer(value: u16) -> Reply
+    ensures { result ≡ answer value }
 {
     Reply {
         number: 0,
-        result: res,
+        result: value,
     }
 }

@@ -126,7 +126,7 @@ module _ (d : Damage) (s : List ℕ) where
   pub scratched_byte : (k : ℕ) → length s ≡ 2352 → d.from + d.count ≤ 2352 → k < 2352
       → get_or (scratched d s) k 0 ≡ (if leb d.from k && ltb k (d.from + d.count) then 255 - get_or s k 0 else get_or s k 0)
   unfolding scratched
-  scratched_byte k full fits inside-it =
+  scratched_byte k full fits inside_it =
       ap (λ (x : List ℕ). get_or x k 0) (if_true (inside d.from d.count) _ s (le-leb (d.from + d.count) 2352 fits))
       ∙ getD_put d.from d.count s (inverted (take d.count (drop d.from s))) (omega (arith, full))
       (length_inverted (take d.count (drop d.from s)) ∙ length_window d.from d.count s (omega (arith, full))) k 0
@@ -147,11 +147,11 @@ module _ (d : Damage) (s : List ℕ) where
   pub turned : (b : Bool) → b ≡ inside d.from d.count → not b ≡ false → (t : List ℕ) → t ≡ inverted (mid_of d.from (d.from + d.count - d.from) s)
       → put_mid d.from (d.from + d.count - d.from) s t ≡ scratched d s
   unfolding scratched
-  turned b e in-it t et =
+  turned b e in_it t et =
       let size : d.from + d.count - d.from ≡ d.count = omega arith in
       put_part d.from d.count s t
       ∙ ap (λ (x : List ℕ). take d.from s ++ (x ++ drop (d.from + d.count) s)) (et ∙ ap (λ (n : ℕ). inverted (take n (drop d.from s))) size)
-      ∙ sym (if_true (inside d.from d.count) _ s (sym e ∙ not-false b in-it))
+      ∙ sym (if_true (inside d.from d.count) _ s (sym e ∙ not-false b in_it))
 
 -- a count of 0 damages nothing
 pub scratched_none : (from : ℕ) (s : List ℕ) → scratched (record { from = from; count = 0 }) s ≡ s

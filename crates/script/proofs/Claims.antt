@@ -33,7 +33,7 @@ use Rattle.chip.specs.Machine.{of_word, chip_answer, chip_step}
 use Rattle.chip.specs.declared.Chip.{Chip}
 use Rattle.chip.specs.declared.Word.{Word}
 use Rattle.chip.specs.declared.Word.TheVariants.{Handed, Refused}
-use Rattle.syntax.specs.Grammar.{form, onward, bare, disc as disc-line, several, named, parse}
+use Rattle.syntax.specs.Grammar.{form, onward, bare, disc as disc_line, several, named, parse}
 use Rattle.syntax.specs.declared.line.Line.{Line}
 use Rattle.syntax.specs.declared.line.Line.TheVariants.{Malformed, Open, Plain, Look, Take, Disc, Scratch, SetKind, SetSubheader}
 use Rattle.script.specs.Answers.{Answered, unchanged, answered, refused, of_told, opening, disc_number, brought, disc, said, word, called, closed, size, with_rest, shown}
@@ -93,7 +93,7 @@ pub closed_started : Closed started
 closed_started = (refl, refl, refl)
 
 pub closed_empty : (m s : List ℕ) → (reply started m s []).answer.opened ≡ false
-unfolding answered closed parse named several disc-line bare form onward
+unfolding answered closed parse named several disc_line bare form onward
 closed_empty m s = refl
 
 -- the number and the value of a word are those of its answer
@@ -217,7 +217,7 @@ refusal_claim b m s line k =
 
 -- the claim's premise is met: an empty line is refused
 pub refused_empty : (m s : List ℕ) → (reply started m s []).answer.number ≡ 2
-unfolding answered closed parse named several disc-line bare form onward
+unfolding answered closed parse named several disc_line bare form onward
 refused_empty m s = refl
 
 -- a kind in range is one of three

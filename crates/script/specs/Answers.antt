@@ -1,6 +1,5 @@
 -- What the bench answers to a call (paper 01, "Bench cases"; docs/DECISIONS.md, "Bench"), by the chip's own definitions. Assumes nothing.
-use Rattle.std.specs.Prelude.{ℕ, ◌*◌, Bool, true, false, not, List, ◌++◌, length, take, drop, ◌==◌, nat_lt}
-use Rattle.std.specs.Prelude.{if◌then◌else◌}
+use Rattle.std.specs.Prelude.{ℕ, ◌*◌, Bool, true, false, not, List, ◌++◌, length, take, drop, ◌==◌, nat_lt, if◌then◌else◌}
 use Rattle.sector.specs.Address.{valid}
 use Rattle.sector.specs.Judge.{why}
 use Rattle.sector.specs.Layout.{agrees}

@@ -1,6 +1,5 @@
 -- The bench: what a line does and prints (paper 01, "Bench cases"; docs/DECISIONS.md, "Bench"). Assumes nothing.
-use Rattle.std.specs.Prelude.{ℕ, ◌+◌, ◌%◌, ◌^◌, false, List, length, nat_lt}
-use Rattle.std.specs.Prelude.{if◌then◌else◌}
+use Rattle.std.specs.Prelude.{ℕ, ◌+◌, ◌%◌, ◌^◌, false, List, length, nat_lt, if◌then◌else◌}
 use Rattle.chip.specs.Chip.{opened}
 use Rattle.syntax.specs.Grammar.{parse}
 use Rattle.script.specs.Answers.{Answered, answered, shown}

@@ -1,9 +1,8 @@
 -- What holds before an accepted opening (paper 01, "Bench cases": 5 and nothing else); that a refusal changes no byte; that an open bench runs the
 -- machine of demand 3; and the disc's side of it (paper 02, asks 1 and 4). Assumes nothing.
-use Rattle.std.specs.Prelude.{◌≡◌, ℕ, ◌+◌, ◌-◌, ◌<◌, ◌≤◌, Bool, true, false, ◌&&◌, ◌||◌, leb, List, [], ◌∷◌, length, replicate, ◌==◌, ◌≢◌, bit_xor, nat_le, nat_lt, slice_index}
+use Rattle.std.specs.Prelude.{◌≡◌, ℕ, ◌+◌, ◌-◌, ◌<◌, ◌≤◌, Bool, true, false, ◌&&◌, ◌||◌, leb, List, [], ◌∷◌, length, replicate, ◌==◌, ◌≢◌, bit_xor, nat_le, nat_lt, slice_index, if◌then◌else◌}
 use Rattle.laws.specs.Bytes.{Bytes, inverted}
-use Rattle.std.specs.Prelude.{if◌then◌else◌}
-use Rattle.calls.specs.declared.Call.{Call as Lent-nothing}
+use Rattle.calls.specs.declared.Call.{Call as LentNothing}
 use Rattle.sector.specs.Address.{valid}
 use Rattle.reply.specs.Reply.{answer}
 use Rattle.sector.specs.Calls.{seal_sector, open_sector, parity_reply}
@@ -65,7 +64,7 @@ Says c d ring s line in_range =
     called c d ring s line ≡ unchanged ring s (record { opened = true; chip = c; number = if in_range then 0 else 3; out = 0 })
 
 pub record MachineClaim : Type 0 where
-  pub plain_runs : (c : Chip) (d : Carried) (ring s : List ℕ) (call : Lent-nothing) → Runs c d ring s (Plain call) (plain call)
+  pub plain_runs : (c : Chip) (d : Carried) (ring s : List ℕ) (call : LentNothing) → Runs c d ring s (Plain call) (plain call)
   pub look_runs : (c : Chip) (d : Carried) (ring s : List ℕ) → Runs c d ring s Look look
   pub word_runs : (c : Chip) (d : Carried) (ring s : List ℕ) → Runs c d ring s Take word
   -- a sector line whose buffer, fill, address and form are as they should be: the chip's refusals are the machine's too
@@ -104,6 +103,6 @@ pub record DiscClaim : Type 0 where
   pub used_up : (d : Carried) (a : Address) (byte : ℕ) → carried_after d (Disc a byte) 0 ≡ record { kind = d.kind; subheader = d.subheader; damage = undamaged }
   pub put_back : (d : Carried) (n : ℕ)
       → carried_after d (Open n) 0 ≡ record { kind = 1; subheader = record { file = 0; channel = 0; submode = 0; coding = 0 }; damage = record { from = 0; count = 0 } }
-  pub waited : (d : Carried) (call : Lent-nothing) (number : ℕ)
+  pub waited : (d : Carried) (call : LentNothing) (number : ℕ)
       → (carried_after d (Plain call) number ≡ d) × (carried_after d Look number ≡ d) × (carried_after d Take number ≡ d) × (carried_after d Malformed number ≡ d)
   pub refusal : (d : Carried) (line : Line) (number : ℕ) → (number ≢ 0) → carried_after d line number ≡ d

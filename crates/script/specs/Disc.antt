@@ -1,8 +1,7 @@
 -- What sector lines carry, and how the next one arrives (paper 02, asks 1 and 4; docs/DECISIONS.md, "Bench"): the kind and the subheader that were said
 -- last, and a run of bytes that are inverted, sync bytes too. They are the disc's and not the chip's. Assumes nothing.
-use Rattle.std.specs.Prelude.{ℕ, ◌+◌, ◌%◌, Bool, ◌&&◌, List, ◌++◌, take, drop, replicate, ◌==◌, nat_le}
+use Rattle.std.specs.Prelude.{ℕ, ◌+◌, ◌%◌, Bool, ◌&&◌, List, ◌++◌, take, drop, replicate, ◌==◌, nat_le, if◌then◌else◌}
 use Rattle.laws.specs.Bytes.{inverted}
-use Rattle.std.specs.Prelude.{if◌then◌else◌}
 use Rattle.sector.specs.Calls.{seal_sector, no_subheader}
 use Rattle.sector.specs.declared.Address.{Address}
 use Rattle.sector.specs.declared.Subheader.{Subheader}

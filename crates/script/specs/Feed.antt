@@ -1,6 +1,5 @@
 -- The lines of a text, run one after the other (paper 01, "Bench cases"). Assumes nothing.
-use Rattle.std.specs.Prelude.{ℕ, suc, ◌+◌, not, List, [], ◌∷◌, ◌++◌, length, ◌==◌, nat_lt}
-use Rattle.std.specs.Prelude.{if◌then◌else◌}
+use Rattle.std.specs.Prelude.{ℕ, suc, ◌+◌, not, List, [], ◌∷◌, ◌++◌, length, ◌==◌, nat_lt, if◌then◌else◌}
 use Rattle.syntax.specs.Print.{room, over}
 use Rattle.script.specs.Answers.{Answered}
 use Rattle.script.specs.Bench.{Left, reply, carried_left, count, text, after}

@@ -31,16 +31,16 @@ use Rattle.sector.proofs.Layouts.{fits, form_not_1, read_two, read_other, other_
 -- The kind: it is read from byte 15, and in mode 2 from byte 18
 
 pub kind_stays : (s : List ℕ) (k v : ℕ) → (k ≡ 15 → ⊥) → (k ≡ 18 → kind_read s ≡ 1) → kind_read (set s k v) ≡ kind_read s
-kind_stays s k v not-15 at-18 = by (eqb (get_or s 15 0) 2) refl
+kind_stays s k v not_15 at_18 = by (eqb (get_or s 15 0) 2) refl
   where
     mode_same : get_or (set s k v) 15 0 ≡ get_or s 15 0
-    mode_same = get_or-set_other s k 15 v 0 (λ (e : 15 ≡ k). not-15 (sym e))
+    mode_same = get_or-set_other s k 15 v 0 (λ (e : 15 ≡ k). not_15 (sym e))
 
     by : (b : Bool) → eqb (get_or s 15 0) 2 ≡ b → kind_read (set s k v) ≡ kind_read s
     by true e =
         let two = eqb-true (get_or s 15 0) 2 e in
         read_two (set s k v) (mode_same ∙ two)
-        ∙ ap (λ (n : ℕ). form n) (get_or-set_other s k 18 v 0 (λ (t : 18 ≡ k). other_read s (at-18 (sym t)) two)) ∙ sym (read_two s two)
+        ∙ ap (λ (n : ℕ). form n) (get_or-set_other s k 18 v 0 (λ (t : 18 ≡ k). other_read s (at_18 (sym t)) two)) ∙ sym (read_two s two)
     by false e =
         let other = eqb-false (get_or s 15 0) 2 e in
         read_other (set s k v) (λ (t : get_or (set s k v) 15 0 ≡ 2). other (sym mode_same ∙ t)) ∙ sym (read_other s other)
@@ -103,11 +103,11 @@ module _ (s : List ℕ) (k v : ℕ) where
 -- a mode byte that is neither 1 nor 2
 pub odd_fails : (s : List ℕ) (v : ℕ) → length s ≡ 2352 → (v ≡ 1 → ⊥) → (v ≡ 2 → ⊥) → mode_holds (set s 15 v) ≡ false
 unfolding mode_holds
-odd_fails s v full not-1 not-2 =
+odd_fails s v full not_1 not_2 =
     let is : get_or (set s 15 v) 15 0 ≡ v = get_or-set_same s 15 v 0 (omega (arith, full)) in
     ap (λ (x : ℕ). eqb x 1 || (eqb x 2 && same (take 4 (drop 16 (set s 15 v))) (take 4 (drop 20 (set s 15 v))))) is
-    ∙ both_false (eqb v 1) (eqb v 2 && same (take 4 (drop 16 (set s 15 v))) (take 4 (drop 20 (set s 15 v)))) (ne_eqb v 1 not-1)
-    (left_false (eqb v 2) (same (take 4 (drop 16 (set s 15 v))) (take 4 (drop 20 (set s 15 v)))) (ne_eqb v 2 not-2))
+    ∙ both_false (eqb v 1) (eqb v 2 && same (take 4 (drop 16 (set s 15 v))) (take 4 (drop 20 (set s 15 v)))) (ne_eqb v 1 not_1)
+    (left_false (eqb v 2) (same (take 4 (drop 16 (set s 15 v))) (take 4 (drop 20 (set s 15 v)))) (ne_eqb v 2 not_2))
 
 -- another mode byte, where the kind that is read stays
 pub mode_other : (s : List ℕ) (v : ℕ) → length s ≡ 2352 → (v ≡ get_or s 15 0 → ⊥) → kind_read (set s 15 v) ≡ kind_read s → mode_holds s ≡ true
@@ -196,11 +196,11 @@ module _ (l : Layout) (f : Fits l) (s : List ℕ) (k v : ℕ) where
 
   pub right_fails : length s ≡ 2352 → Bytes s → v < 256 → (v ≡ get_or s k 0 → ⊥) → of_edc l k ≡ true → code_right l s ≡ true → code_right l (set s k v) ≡ false
   unfolding code_right
-  right_fails full hs hv new in-it held =
+  right_fails full hs hv new in_it held =
       not_same (stored l (set s k v)) (worked_out l (set s k v))
       (λ (e : stored l (set s k v) ≡ worked_out l (set s k v)).
-      caught full hs hv new (same_is (stored l s) (worked_out l s) held) e (leb-true l.covered k (left_true (leb l.covered k) (ltb k (l.code + 4)) in-it))
-      (ltb-true k (l.code + 4) (right_true (leb l.covered k) (ltb k (l.code + 4)) in-it)))
+      caught full hs hv new (same_is (stored l s) (worked_out l s) held) e (leb-true l.covered k (left_true (leb l.covered k) (ltb k (l.code + 4)) in_it))
+      (ltb-true k (l.code + 4) (right_true (leb l.covered k) (ltb k (l.code + 4)) in_it)))
 
 -- by the kind that is read, where it stays
 module _ (s : List ℕ) (k v : ℕ) (kept : kind_read (set s k v) ≡ kind_read s) where
@@ -220,7 +220,7 @@ module _ (s : List ℕ) (k v : ℕ) (kept : kind_read (set s k v) ≡ kind_read 
 
   pub edc_found : length s ≡ 2352 → Bytes s → v < 256 → (v ≡ get_or s k 0 → ⊥) → of_edc (layout_read s) k ≡ true → code_right (layout_read s) s ≡ true
       → unwritten (layout_read s) (set s k v) ≡ false → edc_holds (set s k v) ≡ false
-  edc_found full hs hv new in-it held written =
+  edc_found full hs hv new in_it held written =
       read_kept
       ∙ both_false (code_right (layout_read s) (set s k v)) (unwritten (layout_read s) (set s k v))
-      (right_fails (layout_read s) (fits (kind_read s)) s k v full hs hv new in-it held) written
+      (right_fails (layout_read s) (fits (kind_read s)) s k v full hs hv new in_it held) written

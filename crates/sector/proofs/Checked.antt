@@ -61,13 +61,13 @@ says s b full e = sym (parity_done s full) ∙ ap (λ (x : Bool). answer (weight
 stays : (s : List ℕ) (k v : ℕ) → kind_read (set s k v) ≡ kind_read s → parity_holds (layout_read s).masked (set s k v) ≡ parity_holds (layout_read s).masked s
     → parity_reply (set s k v) ≡ parity_reply s
 unfolding words_hold
-stays s k v kept same-words = by (eqb (length s) 2352) refl
+stays s k v kept same_words = by (eqb (length s) 2352) refl
   where
     by : (b : Bool) → eqb (length s) 2352 ≡ b → parity_reply (set s k v) ≡ parity_reply s
     by true f =
         let full = eqb-true (length s) 2352 f in
         says (set s k v) (words_hold (layout_read s) s) (length-set s k v ∙ full)
-        (ap (λ (n : ℕ). words_hold (layout n) (set s k v)) kept ∙ ap (λ (b : Bool). not (layout_read s).parity || b) same-words)
+        (ap (λ (n : ℕ). words_hold (layout n) (set s k v)) kept ∙ ap (λ (b : Bool). not (layout_read s).parity || b) same_words)
         ∙ parity_done s full
     by false f =
         let short = eqb-false (length s) 2352 f in
@@ -76,10 +76,10 @@ stays s k v kept same-words = by (eqb (length s) 2352) refl
 pub detected : (s : List ℕ) (k v : ℕ) → parity_reply s ≡ answer 1 → (kind_read s ≡ 3 → ⊥) → (kind_read s ≡ 2 → 16 ≤ k) → 12 ≤ k → k < 2352
     → (v ≡ get_or s k 0 → ⊥) → kind_read (set s k v) ≡ kind_read s → parity_reply (set s k v) ≡ answer 0
 unfolding words_hold
-detected s k v e not-3 from-16 low high new kept =
+detected s k v e not_3 from_16 low high new kept =
     let h = yes s e in
     let l = layout_read s in
-    let words : l.parity ≡ true = not-false l.parity (contra (not l.parity) false (λ t. absurd (not-3 (wordless_kind (kind_read s) (not-true l.parity t)))) refl) in
+    let words : l.parity ≡ true = not-false l.parity (contra (not l.parity) false (λ t. absurd (not_3 (wordless_kind (kind_read s) (not-true l.parity t)))) refl) in
     let held : parity_holds l.masked s ≡ true = when_true l.parity (parity_holds l.masked s) h.1 words in
     let counts : (l.masked && (leb 12 k && ltb k 16)) ≡ false = in_words l.masked refl in
     says (set s k v) false (length-set s k v ∙ h.0)
@@ -88,7 +88,7 @@ detected s k v e not-3 from-16 low high new kept =
   where
     in_words : (b : Bool) → (layout_read s).masked ≡ b → (b && (leb 12 k && ltb k 16)) ≡ false
     in_words false f = refl
-    in_words true f = right_false (leb 12 k) (ltb k 16) (le-ltb k 16 (from-16 (masked_kind (kind_read s) f)))
+    in_words true f = right_false (leb 12 k) (ltb k 16) (le-ltb k 16 (from_16 (masked_kind (kind_read s) f)))
 
 pub sync_free : (s : List ℕ) (k v : ℕ) → k < 12 → parity_reply (set s k v) ≡ parity_reply s
 sync_free s k v h =
@@ -186,12 +186,12 @@ module _ (s : List ℕ) (a : Address) (full : length s ≡ 2352) (good : judgeme
           let kind = read_two s e.0 in
           let xa = form_mode (get_or s 18 0) in
           let user_24 : l.user ≡ 24 = ap (λ (n : ℕ). (layout n).user) kind ∙ xa.1 in
-          let mode-2 : l.mode ≡ 2 = ap (λ (n : ℕ). (layout n).mode) kind ∙ xa.0 in
-          let first-20 : take 20 s ≡ (sync ++ address_bytes a ++ 2 ∷ []) ++ subheader_bytes h
+          let mode_2 : l.mode ≡ 2 = ap (λ (n : ℕ). (layout n).mode) kind ∙ xa.0 in
+          let first_20 : take 20 s ≡ (sync ++ address_bytes a ++ 2 ∷ []) ++ subheader_bytes h
           = take-add 16 4 s ∙ ap₂ (λ (x y : List ℕ). x ++ y) (first_16 ∙ ap (λ (x : ℕ). sync ++ address_bytes a ++ x ∷ []) e.0) copy in
-          let first_24 : take 24 s ≡ full_head 2 a h = take-add 20 4 s ∙ ap₂ (λ (x y : List ℕ). x ++ y) first-20 (sym e.1 ∙ copy) in
+          let first_24 : take 24 s ≡ full_head 2 a h = take-add 20 4 s ∙ ap₂ (λ (x y : List ℕ). x ++ y) first_20 (sym e.1 ∙ copy) in
           ap (λ (n : ℕ). take n s) user_24 ∙ first_24
-          ∙ sym (ap₂ (λ (n m : ℕ). take n (full_head m a h)) user_24 mode-2)
+          ∙ sym (ap₂ (λ (n m : ℕ). take n (full_head m a h)) user_24 mode_2)
 
   first_body : take l.code s ≡ body l a h s
   unfolding body

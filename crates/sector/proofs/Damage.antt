@@ -110,7 +110,7 @@ module _ (s : List ℕ) (a : Address) (judged : judge_answer s a ≡ verdict no_
   judges t j full e = sym (judge_done t a full (accepted s a (ap (λ (x : Judged). x.number) judged)).1) ∙ ap (λ (x : Judgement). verdict x) e
 
 pub damage : DamageClaim
-damage s a k v hs judged hv new kept written written-too =
+damage s a k v hs judged hv new kept written written_too =
     let l = layout_read s in
     let h = changed s a k v (whole s a judged) hs hv new kept in
     let was = fact s a judged in
@@ -118,7 +118,7 @@ damage s a k v hs judged hv new kept written written-too =
     (same_facts (judgement a (set s k v)) (facts_of_change l k)
     (exactly (ltb k 12) _ _ (λ e. h.sync_set (ltb-true k 12 e)) (λ e. h.sync_stays (ltb-false k 12 e)) (was (λ j. j.sync)))
     (exactly (of_mode l k) _ _ h.mode_set h.mode_stays (was (λ j. j.mode)))
-    (exactly (of_edc l k) _ _ (λ e _. h.edc_set e (right s a judged written) written-too) h.edc_stays (was (λ j. j.edc)))
+    (exactly (of_edc l k) _ _ (λ e _. h.edc_set e (right s a judged written) written_too) h.edc_stays (was (λ j. j.edc)))
     (exactly (leb 12 k && ltb k 15) _ _
     (λ e. h.address_set (leb-true 12 k (left_true (leb 12 k) (ltb k 15) e)) (ltb-true k 15 (right_true (leb 12 k) (ltb k 15) e)))
     (λ e. h.address_stays (out_of_run 12 15 k e)) (was (λ j. j.address))))
@@ -127,36 +127,36 @@ damage s a k v hs judged hv new kept written written-too =
 
 -- one that leaves sync, address and EDC is not of their bytes
 not_of : (s : List ℕ) (k : ℕ) → facts_of_change (layout_read s) k ≡ no_facts → (k ≡ 15 → ⊥) → k < (layout_read s).code + 4 → ⊥
-not_of s k none not-15 before =
+not_of s k none not_15 before =
     let l = layout_read s in
     let f = fits (kind_read s) in
     let covered = f.covered_from in
-    let past-sync = ltb-false k 12 (ap (λ (j : Judgement). j.sync) none) in
-    let past-address : 15 ≤ k = ⊎_elim (λ (t : k < 12). absurd (omega arith)) (λ t. t) (out_of_run 12 15 k (ap (λ (j : Judgement). j.address) none)) in
-    ⊎_elim (λ (t : k < l.covered). not-15 (omega arith)) (λ (t : l.code + 4 ≤ k). omega arith)
+    let past_sync = ltb-false k 12 (ap (λ (j : Judgement). j.sync) none) in
+    let past_address : 15 ≤ k = ⊎_elim (λ (t : k < 12). absurd (omega arith)) (λ t. t) (out_of_run 12 15 k (ap (λ (j : Judgement). j.address) none)) in
+    ⊎_elim (λ (t : k < l.covered). not_15 (omega arith)) (λ (t : l.code + 4 ≤ k). omega arith)
     (out_of_run l.covered (l.code + 4) k (ap (λ (j : Judgement). j.edc) none))
 
 -- byte 18 of mode 2: the copies differ, whatever form is read
 submode_found : (s : List ℕ) (a : Address) (v : ℕ) → judge_answer s a ≡ verdict no_facts → (v ≡ get_or s 18 0 → ⊥) → (kind_read s ≡ 1 → ⊥)
     → judge_answer (set s 18 v) a ≡ verdict no_facts → ⊥
-submode_found s a v judged new not-1 after =
+submode_found s a v judged new not_1 after =
     clash (mode_holds (set s 18 v))
-    (mode_copies s 18 v (whole s a judged) new (omega arith) (omega arith) (two_read s not-1) (mode_held s a judged))
+    (mode_copies s 18 v (whole s a judged) new (omega arith) (omega arith) (two_read s not_1) (mode_held s a judged))
     (mode_held (set s 18 v) a after)
 
 found : (s : List ℕ) (a : Address) (k v : ℕ) → Bytes s → judge_answer s a ≡ verdict no_facts → v < 256 → (v ≡ get_or s k 0 → ⊥)
     → unwritten (layout_read s) s ≡ false → unwritten (layout_read s) (set s k v) ≡ false → (k ≡ 15 → ⊥) → k < (layout_read s).code + 4
     → judge_answer (set s k v) a ≡ verdict no_facts → ⊥
-found s a k v hs judged hv new written written-too not-15 before after = by (eqb k 18) (eqb (kind_read s) 1) refl refl
+found s a k v hs judged hv new written written_too not_15 before after = by (eqb k 18) (eqb (kind_read s) 1) refl refl
   where
     same_kind : kind_read (set s k v) ≡ kind_read s → ⊥
     same_kind kept =
         not_of s k
-        (ap (λ (j : Judged). j.judgement) (sym (damage s a k v hs judged hv new kept written written-too) ∙ after)) not-15 before
+        (ap (λ (j : Judged). j.judgement) (sym (damage s a k v hs judged hv new kept written written_too) ∙ after)) not_15 before
 
     by : (b c : Bool) → eqb k 18 ≡ b → eqb (kind_read s) 1 ≡ c → ⊥
-    by false c e f = same_kind (kind_stays s k v not-15 (λ (t : k ≡ 18). absurd (eqb-false k 18 e t)))
-    by true true e f = same_kind (kind_stays s k v not-15 (λ _. eqb-true (kind_read s) 1 f))
+    by false c e f = same_kind (kind_stays s k v not_15 (λ (t : k ≡ 18). absurd (eqb-false k 18 e t)))
+    by true true e f = same_kind (kind_stays s k v not_15 (λ _. eqb-true (kind_read s) 1 f))
     by true false e f =
         let here = eqb-true k 18 e in
         submode_found s a v judged (λ (t : v ≡ get_or s 18 0). new (t ∙ ap (λ (i : ℕ). get_or s i 0) (sym here))) (eqb-false (kind_read s) 1 f)
@@ -166,7 +166,7 @@ found s a k v hs judged hv new written written-too not-15 before after = by (eqb
 found_front : (s : List ℕ) (a : Address) (k v : ℕ) → judge_answer s a ≡ verdict no_facts → (v ≡ get_or s k 0 → ⊥) → (kind_read s ≡ 1 → ⊥)
     → (k ≡ 15 → ⊥) → k < 24 → judge_answer (set s k v) a ≡ verdict no_facts → ⊥
 unfolding sync_holds address_holds
-found_front s a k v judged new not-1 not-15 before after =
+found_front s a k v judged new not_1 not_15 before after =
     let full = whole s a judged in
     ⊎_elim
     (λ (t : k < 12).
@@ -175,12 +175,12 @@ found_front s a k v judged new not-1 not-15 before after =
     ⊎_elim
     (λ (t : k < 15).
     clash (address_holds a (set s k v)) (same_fails 12 3 k v s (address_bytes a) past t (omega (arith, full)) new (address_held s a judged)) (address_held (set s k v) a after))
-    (λ (t : 15 ≤ k). clash (mode_holds (set s k v)) (mode_copies s k v full new (at_16 t) before (two_read s not-1) (mode_held s a judged)) (mode_held (set s k v) a after))
+    (λ (t : 15 ≤ k). clash (mode_holds (set s k v)) (mode_copies s k v full new (at_16 t) before (two_read s not_1) (mode_held s a judged)) (mode_held (set s k v) a after))
     (lt_or_ge k 15))
     (lt_or_ge k 12)
   where
     at_16 : 15 ≤ k → 16 ≤ k
-    at_16 t = ⊎_elim (λ (e : k < 16). absurd (not-15 (omega arith))) (λ (e : 16 ≤ k). e) (lt_or_ge k 16)
+    at_16 t = ⊎_elim (λ (e : k < 16). absurd (not_15 (omega arith))) (λ (e : 16 ≤ k). e) (lt_or_ge k 16)
 
 -- What is not
 
@@ -188,9 +188,9 @@ found_front s a k v judged new not-1 not-15 before after =
 module _ (s : List ℕ) (a : Address) (k v : ℕ) where
   as_before : 24 ≤ k → edc_holds (set s k v) ≡ edc_holds s → judgement a (set s k v) ≡ judgement a s
   unfolding judgement sync_holds address_holds
-  as_before past edc-same =
+  as_before past edc_same =
       same_facts (judgement a (set s k v)) (judgement a s) (ap not (same_away 0 12 k v s sync (inr (omega arith))))
-      (ap not (mode_away s k v (λ (e : k ≡ 15). omega arith) (λ _. inr past))) (ap not edc-same) (ap not (same_away 12 3 k v s (address_bytes a) (inr (omega arith))))
+      (ap not (mode_away s k v (λ (e : k ≡ 15). omega arith) (λ _. inr past))) (ap not edc_same) (ap not (same_away 12 3 k v s (address_bytes a) (inr (omega arith))))
 
   kept_past : 24 ≤ k → kind_read (set s k v) ≡ kind_read s
   kept_past past = kind_stays s k v (λ (e : k ≡ 15). omega arith) (λ (e : k ≡ 18). absurd (omega arith))
@@ -200,8 +200,8 @@ module _ (s : List ℕ) (a : Address) (k v : ℕ) where
       let l = layout_read s in
       let f = fits (kind_read s) in
       let after = code_after (kind_read s) in
-      let past-24 : 24 ≤ k = omega arith in
-      as_before past-24 (edc_away s k v (kept_past past-24) (right_false (leb l.covered k) (ltb k (l.code + 4)) (le-ltb k (l.code + 4) past)))
+      let past_24 : 24 ≤ k = omega arith in
+      as_before past_24 (edc_away s k v (kept_past past_24) (right_false (leb l.covered k) (ltb k (l.code + 4)) (le-ltb k (l.code + 4) past)))
 
 -- without a code the EDC is not judged
 unwritten_holds : (s : List ℕ) → unwritten (layout_read s) s ≡ true → edc_holds s ≡ true
@@ -240,7 +240,7 @@ emptied s a k v judged three from none =
 
 odd_mode : (s : List ℕ) (a : Address) (v : ℕ) → length s ≡ 2352 → (v ≡ 1 → ⊥) → (v ≡ 2 → ⊥) → (judgement a (set s 15 v)).mode ≡ true
 unfolding judgement
-odd_mode s a v full not-1 not-2 = ap not (odd_fails s v full not-1 not-2)
+odd_mode s a v full not_1 not_2 = ap not (odd_fails s v full not_1 not_2)
 
 pub founds : FoundClaim
 founds = record {

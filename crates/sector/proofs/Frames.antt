@@ -86,14 +86,14 @@ pub made : (l : Layout) (a : Address) (h : Subheader) (s d e : List ℕ) → Fit
     → e ≡ (low4 (edc 0 (mid_of l.covered (l.code - l.covered) d)) ++ replicate l.zeros 0) ++ drop (4 + l.zeros) (mid_of l.code (length d - l.code) d)
     → put_mid l.code (length d - l.code) d e ≡ framed l a h s ++ drop (end l) s
 unfolding framed
-made l a h s d e f d-is e-is =
-    let b : take l.code d ≡ body l a h s = ap (take l.code) d-is ∙ front l a h f s in
+made l a h s d e f d_is e_is =
+    let b : take l.code d ≡ body l a h s = ap (take l.code) d_is ∙ front l a h f s in
     let c : low4 (edc 0 (mid_of l.covered (l.code - l.covered) d)) ≡ code_of l (body l a h s) =
     ap (λ (x : List ℕ). low4 (edc 0 x)) (covered_part l d f ∙ ap (drop l.covered) b) in
     let rest : drop (4 + l.zeros) (mid_of l.code (length d - l.code) d) ≡ drop (end l) s =
-    ap (drop (4 + l.zeros)) (mid_rest l.code d) ∙ drop-drop (4 + l.zeros) l.code d ∙ ap (drop (end l)) d-is ∙ behind l a h f s in
+    ap (drop (4 + l.zeros)) (mid_rest l.code d) ∙ drop-drop (4 + l.zeros) l.code d ∙ ap (drop (end l)) d_is ∙ behind l a h f s in
     put_rest l.code d e
-    ∙ ap₂ (λ (x y : List ℕ). x ++ y) b (e-is ∙ ap₂ (λ (x y : List ℕ). (x ++ replicate l.zeros 0) ++ y) c rest)
+    ∙ ap₂ (λ (x y : List ℕ). x ++ y) b (e_is ∙ ap₂ (λ (x y : List ℕ). (x ++ replicate l.zeros 0) ++ y) c rest)
     ∙ sym (append_assoc (body l a h s) (code_of l (body l a h s) ++ replicate l.zeros 0) (drop (end l) s))
 
 -- ---- what stands where

@@ -1,6 +1,5 @@
 -- The address of a sector (ECMA-130, clause 14; paper 01, "Sectors"). Assumes nothing.
-use Rattle.std.specs.Prelude.{Bool, ◌&&◌, List, [], ◌∷◌, ℕ, ◌+◌, ◌*◌, ◌/◌, ◌%◌, leb, ltb, get_or}
-use Rattle.std.specs.Prelude.{if◌then◌else◌}
+use Rattle.std.specs.Prelude.{Bool, ◌&&◌, List, [], ◌∷◌, ℕ, ◌+◌, ◌*◌, ◌/◌, ◌%◌, leb, ltb, get_or, if◌then◌else◌}
 use Rattle.sector.specs.declared.Address.{Address}
 
 -- minute 0 to 99, second 0 to 59, frame 0 to 74

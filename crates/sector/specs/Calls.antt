@@ -1,6 +1,5 @@
 -- What each call answers and leaves, on every input (paper 01, "Reply numbers" and "Sectors"; paper 02). Assumes nothing.
-use Rattle.std.specs.Prelude.{Bool, not, ◌&&◌, ◌||◌, List, ℕ, eqb, length}
-use Rattle.std.specs.Prelude.{if◌then◌else◌}
+use Rattle.std.specs.Prelude.{Bool, not, ◌&&◌, ◌||◌, List, ℕ, eqb, length, if◌then◌else◌}
 use Rattle.laws.specs.Numbers.{weight}
 use Rattle.parity.specs.Parity.{parity_holds}
 use Rattle.reply.specs.Reply.{refusal, answer}

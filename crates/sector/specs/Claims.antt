@@ -1,7 +1,6 @@
 -- What is claimed of the calls' answers; proofs/Claims.antt proves it. Assumes nothing.
-use Rattle.std.specs.Prelude.{◌≡◌, Bool, true, false, not, ◌&&◌, ◌||◌, List, [], ◌∷◌, ◌⊎◌, ℕ, ◌+◌, ◌-◌, ◌/◌, ◌%◌, ◌<◌, ◌≤◌, eqb, leb, ltb, length, take, drop, get_or, set, replicate}
+use Rattle.std.specs.Prelude.{◌≡◌, Bool, true, false, not, ◌&&◌, ◌||◌, List, [], ◌∷◌, ◌⊎◌, ℕ, ◌+◌, ◌-◌, ◌/◌, ◌%◌, ◌<◌, ◌≤◌, eqb, leb, ltb, length, take, drop, get_or, set, replicate, if◌then◌else◌}
 use Rattle.laws.specs.Bytes.{Bytes}
-use Rattle.std.specs.Prelude.{if◌then◌else◌}
 use Rattle.laws.specs.Numbers.{weight}
 use Rattle.reply.specs.Reply.{answer}
 use Rattle.sector.specs.declared.Address.{Address}

@@ -1,7 +1,6 @@
 -- The kinds of a sector and their layout as data (ECMA-130, clause 14; paper 01, "Sectors"; paper 02, ask 4): kind 1 is mode 1, kind 2 is mode 2 form 1,
 -- kind 3 is mode 2 form 2. Assumes nothing.
-use Rattle.std.specs.Prelude.{◌≡◌, Bool, true, false, ◌||◌, List, [], ◌∷◌, ◌⊎◌, ℕ, ◌+◌, ◌/◌, ◌%◌, ◌≤◌, eqb, get_or}
-use Rattle.std.specs.Prelude.{if◌then◌else◌}
+use Rattle.std.specs.Prelude.{◌≡◌, Bool, true, false, ◌||◌, List, [], ◌∷◌, ◌⊎◌, ℕ, ◌+◌, ◌/◌, ◌%◌, ◌≤◌, eqb, get_or, if◌then◌else◌}
 use Rattle.sector.specs.declared.Subheader.{Subheader}
 use Rattle.sector.specs.declared.layout.Layout.{Layout}
 

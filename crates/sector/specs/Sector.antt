@@ -1,6 +1,5 @@
 -- A sector and its sealing, by the layout of its kind (ECMA-130, clause 14; paper 01, "Sectors"; paper 02, asks 2 and 4). Assumes nothing.
-use Rattle.std.specs.Prelude.{List, [], ◌∷◌, ◌++◌, ℕ, ◌-◌, ◌/◌, ◌%◌, take, drop, replicate}
-use Rattle.std.specs.Prelude.{if◌then◌else◌}
+use Rattle.std.specs.Prelude.{List, [], ◌∷◌, ◌++◌, ℕ, ◌-◌, ◌/◌, ◌%◌, take, drop, replicate, if◌then◌else◌}
 use Rattle.edc.specs.Edc.{edc}
 use Rattle.parity.specs.Parity.{with_parity}
 use Rattle.scramble.specs.Scramble.{scrambled}

@@ -1,7 +1,6 @@
 -- What a line of input means (paper 01, "Bench cases"; docs/DECISIONS.md, "Bench"): a line is bytes without their end; it is read by
 -- its form and the values of its runs of decimal digits. Assumes nothing.
-use Rattle.std.specs.Prelude.{ℕ, ◌+◌, ◌*◌, ◌-◌, Bool, true, false, ◌&&◌, not, List, [], ◌∷◌, ltb, leb, length}
-use Rattle.std.specs.Prelude.{if◌then◌else◌}
+use Rattle.std.specs.Prelude.{ℕ, ◌+◌, ◌*◌, ◌-◌, Bool, true, false, ◌&&◌, not, List, [], ◌∷◌, ltb, leb, length, if◌then◌else◌}
 use Rattle.laws.specs.Same.{same}
 use Rattle.syntax.specs.Forms.{open_form, read_form, block_form, packet_form, command_form, send_form, write_form, window_form, address_form, sector_form, scratch_form, kind_form, subheader_form, reset_form, look_form, word_form, status_form, srst_form}
 use Rattle.syntax.specs.declared.values.Numbers.{Numbers}

@@ -1,7 +1,6 @@
 -- The line that the bench answers (paper 01, "Bench cases", the listing of the program "bench"; paper 02, ask 1), as bytes. Assumes nothing.
-use Rattle.std.specs.Prelude.{Bool, ◌≡◌, List, [], ◌∷◌, ◌++◌, ℕ, zero, suc, ◌+◌, ◌/◌, ◌%◌, ltb, length, drop}
+use Rattle.std.specs.Prelude.{Bool, ◌≡◌, List, [], ◌∷◌, ◌++◌, ℕ, zero, suc, ◌+◌, ◌/◌, ◌%◌, ltb, length, drop, if◌then◌else◌}
 use Rattle.std.proofs.lemmas.List.Edits.{sets}
-use Rattle.std.specs.Prelude.{if◌then◌else◌}
 use Rattle.syntax.specs.declared.print.Shown.{Shown}
 
 -- a number in decimal: its digits in ASCII, the highest first, with no zero in front; of more than k digits the last k

@@ -34,7 +34,7 @@ use Rattle.tally.specs.Tally.{entries, tally, AddsUp}
 use Rattle.tally.specs.Wrong.{Untallied, skip_without_acmen_step, skipping_without_acmen, RefutedClaim}
 use Rattle.claims.specs.Wrong.{abort_step, taking_abort}
 use Rattle.claims.proofs.Runs.{Ran, calls, ◌then◌, frame, decoding, own}
-use Rattle.claims.proofs.Stages.{chip_with, on-disc, on_word, one_stored}
+use Rattle.claims.proofs.Stages.{chip_with, on_disc, on_word, one_stored}
 use Rattle.claims.proofs.Mode1.{length_encoded}
 
 -- after a run of three blocks 9Dh answers v, which the run's tally does not account for
@@ -63,13 +63,13 @@ module _ (x u : List ℕ) (fits : length x ≡ 3 * 2560) (size : length u ≡ 23
   stored_one : Represents (at 3 0 1 0) 1 1 ring1 (encoded (frame 0) u ∷ [])
   stored_one = one_stored x (encoded (frame 0) u) (encoded (frame 0) u) fits (length_encoded (frame 0) u size) (length_encoded (frame 0) u size)
 
-  abort-run :
+  abort_run :
       Ran taking_abort (set_up ++ disc u 0 ∷ transfer 14 2 ++ word ∷ srst ∷ []) (taking_abort.opened 3 x)
       (ok ∷ ok ∷ ok ∷ ok ∷ ok ∷ ok ∷ ok ∷ ok ∷ handed 256 ∷ ok ∷ []) (over (chip_with aborted (at 3 1 1 0)) ring1)
   unfolding abort_step chip_answer chip_step opened called sound stepped concluded settled admission counted next byte_count start registers.write registers.write_bicctl registers.write_acctl registers.write_ctrl0 registers.write_asctrl registers.write_astrg set_window host_word host_command sectors.encoded with_parity framed body
-  abort-run =
+  abort_run =
       calls set_up (taking_abort.opened 3 x)
-      then on-disc abort_step (λ _ _. refl) (λ _. refl) (decoding 0) (at 3 0 0 0) x refl fits u size 0 _ refl (own u size 0)
+      then on_disc abort_step (λ _ _. refl) (λ _. refl) (decoding 0) (at 3 0 0 0) x refl fits u size 0 _ refl (own u size 0)
       then calls (transfer 14 2) (over (chip_with (decoding 1) (at 3 0 1 0)) ring1)
       then on_word abort_step (λ _ _. refl) (λ _. refl) moving (at 3 0 1 0) ring1 refl stored_one.whole 256 refl (represents_word stored_one 14 (omega arith) (omega arith))
       then calls (srst ∷ []) (over (chip_with (moving ▹ position≔ 1) (at 3 0 1 0)) ring1)
@@ -78,13 +78,13 @@ module _ (x u : List ℕ) (fits : length x ≡ 3 * 2560) (size : length u ≡ 23
   unfolding chip_answer called sound stepped concluded reading.read byte_count
   abort_read = refl
 
-  skip-run :
+  skip_run :
       Ran skipping_without_acmen (set_up ++ disc u 0 ∷ write 0x9C 0x20 ∷ write 0x9E 1 ∷ []) (skipping_without_acmen.opened 3 x)
       (ok ∷ ok ∷ ok ∷ ok ∷ ok ∷ ok ∷ []) (over (chip_with skipped (at 3 1 1 0)) ring1)
   unfolding skip_without_acmen_step chip_answer chip_step opened called sound stepped concluded settled admission counted next registers.write registers.write_bicctl registers.write_acctl registers.write_ctrl0 registers.write_skipc
-  skip-run =
+  skip_run =
       calls set_up (skipping_without_acmen.opened 3 x)
-      then on-disc skip_without_acmen_step (λ _ _. refl) (λ _. refl) (decoding 0) (at 3 0 0 0) x refl fits u size 0 _ refl (own u size 0)
+      then on_disc skip_without_acmen_step (λ _ _. refl) (λ _. refl) (decoding 0) (at 3 0 0 0) x refl fits u size 0 _ refl (own u size 0)
       then calls (write 0x9C 0x20 ∷ write 0x9E 1 ∷ []) (over (chip_with (decoding 1) (at 3 0 1 0)) ring1)
 
   skip_read : chip_answer (plain (Read 0x9D)) (over (chip_with skipped (at 3 1 1 0)) ring1) ≡ replied 0 0
@@ -92,10 +92,10 @@ module _ (x u : List ℕ) (fits : length x ≡ 3 * 2560) (size : length u ≡ 23
   skip_read = refl
 
   by_abort : Untallied taking_abort
-  by_abort = untallied taking_abort x fits abort-run 0 abort_read (λ e. omega arith)
+  by_abort = untallied taking_abort x fits abort_run 0 abort_read (λ e. omega arith)
 
   by_skip : Untallied skipping_without_acmen
-  by_skip = untallied skipping_without_acmen x fits skip-run 0 skip_read (λ e. omega arith)
+  by_skip = untallied skipping_without_acmen x fits skip_run 0 skip_read (λ e. omega arith)
 
 -- any memory and any user bytes do
 pub refuted : RefutedClaim

@@ -1,7 +1,6 @@
 -- Machines whose counters are not the tally's (paper 02, ask 6; paper 01, "Slips seen on other boards"), each the chip but for one call: the one of `claims`
 -- whose SRST counts a half-read block as taken, and one whose skip skips with ACMEN low. Assumes nothing.
-use Rattle.std.specs.Prelude.{◌-◌, ◌&&◌, not, eqb}
-use Rattle.std.specs.Prelude.{if◌then◌else◌}
+use Rattle.std.specs.Prelude.{◌-◌, ◌&&◌, not, eqb, if◌then◌else◌}
 use Rattle.controller.specs.Fields.{◌▹◌, tcc≔, bufc≔}
 use Rattle.controller.specs.declared.step.Event.TheVariants.{Advance}
 use Rattle.ring.specs.Place.{place_step}

@@ -55,11 +55,10 @@ impl Body {
         for place in 0..tokens.len() {
             body.divisions.extend(division(tokens, place));
             body.calls.extend(call(tokens, place));
-            body.names.extend(plain_name(tokens, place));
+            // A name that the code before has given to a value is that value's.
+            body.names.extend(plain_name(tokens, place).filter(|name| !is_bound_before(tokens, place, name)));
             body.ends_of_paths.extend(plain_name(tokens, place).filter(|_| is_behind(tokens, place, "::")));
         }
-        // A name that the code gives to a value itself is that value's.
-        body.names.retain(|name| !(0..tokens.len()).any(|place| is_bound(tokens, place, name)));
         body
     }
 }
@@ -160,10 +159,12 @@ fn plain_name(tokens: &[Token], place: usize) -> Option<String> {
     is_plain.then(|| token.text.to_string())
 }
 
-/// Whether the name stands there behind `let` or `let mut`.
-fn is_bound(tokens: &[Token], place: usize, name: &str) -> bool {
-    let mutable = usize::from(text(tokens, place + 1) == "mut");
-    text(tokens, place) == "let" && text(tokens, place + 1 + mutable) == name
+/// Whether the name stands behind a `let` or `let mut` before the place, or there.
+fn is_bound_before(tokens: &[Token], place: usize, name: &str) -> bool {
+    (0..place).any(|at| {
+        let mutable = usize::from(text(tokens, at + 1) == "mut");
+        text(tokens, at) == "let" && text(tokens, at + 1 + mutable) == name
+    })
 }
 
 fn is_behind(tokens: &[Token], place: usize, sign: &str) -> bool {
@@ -227,8 +228,15 @@ mod tests {
 
     #[test]
     fn names_without_fields_and_calls() {
-        let names: Vec<_> =
-            body("let mut b = 1; let a = b; SIZE + a.COUNT + f(frame::SYNC); A { c: a }").names.into_iter().collect();
-        assert_eq!(names, ["A", "SIZE", "SYNC", "frame", "let", "mut"]);
+        let names: Vec<_> = body("SIZE + a.COUNT + f(frame::SYNC)").names.into_iter().collect();
+        assert_eq!(names, ["SIZE", "SYNC", "a", "frame"]);
+    }
+
+    #[test]
+    fn names_without_those_of_local_values() {
+        let names: Vec<_> = body("let mut b = 1; let a = b; a.COUNT + g(half); A { c: a }").names.into_iter().collect();
+        assert_eq!(names, ["A", "half", "let", "mut"]);
+        let before: Vec<_> = body("g(half); let half = 1; half").names.into_iter().collect();
+        assert_eq!(before, ["half", "let"]);
     }
 }

@@ -4,6 +4,7 @@ mod common;
 
 use common::{archive, folder, JUDGE, NEXT};
 use std::fs;
+use std::ops::Deref;
 use std::path::{Path, PathBuf};
 use std::process::{Command, Output};
 
@@ -26,8 +27,26 @@ fn divide(arguments: &[&str]) -> Output {
     Command::new(env!("CARGO_BIN_EXE_divide")).args(arguments).output().expect("the program starts")
 }
 
+/// A tree that is removed with the value: the gate refuses a list of crates, or a source, that lies elsewhere in the
+/// repository than its own.
+struct Tree(PathBuf);
+
+impl Deref for Tree {
+    type Target = Path;
+
+    fn deref(&self) -> &Path {
+        &self.0
+    }
+}
+
+impl Drop for Tree {
+    fn drop(&mut self) {
+        let _ = fs::remove_dir_all(&self.0);
+    }
+}
+
 /// A tree of two crates, the second with this text.
-fn tree(name: &str, exports: &str) -> PathBuf {
+fn tree(name: &str, exports: &str) -> Tree {
     let root = folder(name);
     fs::write(root.join("crates.txt"), "# two\nsector:\nexports: sector bytes\n").unwrap();
     for (crate_name, text) in [("sector", SECTOR), ("exports", exports)] {
@@ -35,7 +54,7 @@ fn tree(name: &str, exports: &str) -> PathBuf {
         fs::create_dir_all(&folder).unwrap();
         fs::write(folder.join("lib.rt"), text).unwrap();
     }
-    root
+    Tree(root)
 }
 
 fn text(path: &Path) -> &str {
@@ -101,7 +120,7 @@ fn what_cannot_be_read() {
 fn without_binutils() {
     let (root, archive) = (tree("alone", EXPORTS), archive("alone_archive", &[NEXT, JUDGE]));
     let mut command = Command::new(env!("CARGO_BIN_EXE_divide"));
-    let output = command.args([&root, &archive]).env("PATH", folder("no_programs")).output().unwrap();
+    let output = command.args([text(&root), text(&archive)]).env("PATH", folder("no_programs")).output().unwrap();
     assert_eq!(output.status.code(), Some(1));
     assert!(told(&output).contains("objdump (of binutils) does not run"), "{}", told(&output));
 }

@@ -169,6 +169,10 @@ fn code_that_is_not_here() {
     let (fault, chain) = &found(&kit, "is_bcd_of")[0];
     assert_eq!(fault, "calls `std::mem::swap`, whose source is not here");
     assert_eq!(chain, "address_holds -> is_bcd_of");
+    let unlisted = with_line(HEADER, "is_bcd_of", "bytes::copy(&a, &mut b);");
+    let (fault, chain) = &found(&unlisted, "is_bcd_of")[0];
+    assert_eq!(fault, "calls `bytes::copy`, which is neither a function of the crates nor of the kit");
+    assert_eq!(chain, "address_holds -> is_bcd_of");
     let method = with_line(HEADER, "is_bcd_of", "let low = n.rem_euclid(10);");
     let faults: Vec<String> = found(&method, "is_bcd_of").into_iter().map(|(fault, _)| fault).collect();
     assert_eq!(

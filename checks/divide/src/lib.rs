@@ -6,11 +6,14 @@
 //! for it. And the archive has code that is in no source here: the kit's, and what the compiler made.
 
 mod archive;
+mod block;
 mod body;
+mod brackets;
 mod crates;
 mod disassembly;
 mod items;
 mod listing;
+mod plain;
 mod program;
 mod reach;
 mod reader;

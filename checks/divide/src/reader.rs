@@ -1,9 +1,8 @@
 //! A place in the tokens of a file.
 
+use crate::brackets::{angles_end, closes, group_end, opens};
 use crate::tokens::{self, Kind, Token};
 use std::ops::Range;
-
-const PAIRS: [(&str, &str); 3] = [("(", ")"), ("[", "]"), ("{", "}")];
 
 pub struct Reader<'t> {
     file: &'t str,
@@ -24,6 +23,15 @@ impl<'t> Reader<'t> {
     /// The next token's text; nothing at the end.
     pub fn peek(&self) -> &'t str {
         self.tokens.get(self.place).map_or("", |token| token.text)
+    }
+
+    /// The text of the token behind the next.
+    pub fn peek_second(&self) -> &'t str {
+        self.tokens.get(self.place + 1).map_or("", |token| token.text)
+    }
+
+    pub fn place(&self) -> usize {
+        self.place
     }
 
     pub fn is_at_name(&self) -> bool {
@@ -67,21 +75,30 @@ impl<'t> Reader<'t> {
         Ok(name)
     }
 
-    /// Goes over what a bracket opens, and gives what is inside. Brackets of other kinds do not count: a contract may
-    /// have any.
+    /// Goes over what a bracket opens, and gives what is inside.
     pub fn group(&mut self) -> Result<Range<usize>, String> {
-        let (start, text) = (self.place, self.peek());
-        let pair = PAIRS.iter().find(|(open, _)| *open == text);
-        let (open, close) = pair.ok_or_else(|| self.trouble(&format!("`{text}` stands where a bracket must be")))?;
-        let mut depth = 0;
-        for place in start..self.tokens.len() {
-            depth += i32::from(self.tokens[place].text == *open) - i32::from(self.tokens[place].text == *close);
-            if depth == 0 {
-                self.place = place + 1;
-                return Ok(start + 1..place);
-            }
+        let text = self.peek();
+        if !opens(text) {
+            return Err(self.trouble(&format!("`{text}` stands where a bracket must be")));
         }
-        Err(self.trouble(&format!("`{text}` is never closed")))
+        self.go_behind(group_end(&self.tokens, self.place))
+    }
+
+    /// Goes over the parameters of a type or a function, and gives what is between the angles; nothing where there are
+    /// none.
+    pub fn angles(&mut self) -> Result<Range<usize>, String> {
+        if self.peek() != "<" {
+            return Ok(self.place..self.place);
+        }
+        self.go_behind(angles_end(&self.tokens, self.place))
+    }
+
+    /// Goes to an end, and gives what is between the brackets before it.
+    fn go_behind(&mut self, end: Option<usize>) -> Result<Range<usize>, String> {
+        let start = self.place;
+        let end = end.ok_or_else(|| self.trouble(&format!("`{}` is never closed", self.peek())))?;
+        self.place = end;
+        Ok(start + 1..end - 1)
     }
 
     /// Goes on to the first of the ends that stands in no bracket, and gives what is before it.
@@ -98,12 +115,12 @@ impl<'t> Reader<'t> {
 
     /// What ends an item, expected or not.
     fn is_at_close(&self) -> bool {
-        self.peek() == ";" || PAIRS.iter().any(|(_, close)| *close == self.peek())
+        self.peek() == ";" || closes(self.peek())
     }
 
     /// Goes over a token, or over all that it opens.
     fn step_over(&mut self) -> Result<(), String> {
-        if PAIRS.iter().any(|(open, _)| *open == self.peek()) {
+        if opens(self.peek()) {
             return self.group().map(|_| ());
         }
         self.step();
@@ -114,9 +131,13 @@ impl<'t> Reader<'t> {
         &self.tokens[range]
     }
 
+    /// The line where the reader stands.
+    pub fn line(&self) -> usize {
+        self.tokens.get(self.place).or(self.tokens.last()).map_or(1, |token| token.line)
+    }
+
     /// The trouble, with the place where the reader stands.
     pub fn trouble(&self, text: &str) -> String {
-        let token = self.tokens.get(self.place).or(self.tokens.last());
-        format!("{}:{}: {text}", self.file, token.map_or(1, |token| token.line))
+        format!("{}:{}: {text}", self.file, self.line())
     }
 }

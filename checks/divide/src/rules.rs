@@ -7,7 +7,7 @@
 //!    them.
 
 use crate::body::{Call, Division, Form};
-use crate::items::Item;
+use crate::items::{Item, What};
 use crate::program::{Program, Target};
 use crate::reach::Reach;
 use crate::tree::Tree;
@@ -63,7 +63,10 @@ pub fn check_sources(tree: &Tree) -> Result<Sources, String> {
     let divided = faults(&program, &from_roots, Rule::Nothing);
     let divided_oddly = faults(&program, &from_calls, Rule::PowersOfTwo);
     let findings = [no_roots, no_calls, divided, divided_oddly].concat();
-    let titles = |reach: &Reach| reach.items().map(|item| program.items[item].full_title()).collect();
+    let titles = |reach: &Reach| {
+        let items = reach.items().map(|item| &program.items[item]);
+        items.filter(|item| item.what != What::Type).map(Item::full_title).collect()
+    };
     Ok(Sources {
         findings,
         from_roots: titles(&from_roots),
@@ -76,7 +79,8 @@ pub fn check_sources(tree: &Tree) -> Result<Sources, String> {
 fn kit(program: &Program, reach: &Reach) -> BTreeSet<String> {
     let of_item = |place: usize| {
         let item = &program.items[place];
-        let calls = item.body.calls.iter().filter(|call| program.target(item, call) == Target::Kit);
+        let is_kit = |call: &&Call| matches!(program.target(item, call), Target::Kit | Target::Either(_));
+        let calls = program.calls(item).filter(is_kit);
         calls.map(Call::told).collect::<Vec<_>>()
     };
     reach.items().flat_map(of_item).collect()
@@ -141,11 +145,13 @@ impl Rule {
             (Target::Unknown, _) => {
                 Some(format!("calls `{told}`, which is neither a function of the crates nor of the kit"))
             }
-            (Target::Kit, Rule::Nothing) => Some(format!("calls `{told}`, whose source is not here")),
-            (Target::Kit, Rule::PowersOfTwo) if is_of_a_division(&call.name) => {
+            (Target::Kit | Target::Either(_), Rule::Nothing) => {
+                Some(format!("calls `{told}`, whose source is not here"))
+            }
+            (Target::Kit | Target::Either(_), Rule::PowersOfTwo) if is_of_a_division(&call.name) => {
                 Some(format!("calls `{told}`, which divides by its name"))
             }
-            (Target::Kit, Rule::PowersOfTwo) => None,
+            (Target::Kit | Target::Either(_), Rule::PowersOfTwo) => None,
         }
     }
 }
@@ -172,7 +178,6 @@ fn faults(program: &Program, reach: &Reach, rule: Rule) -> Vec<Finding> {
 /// Line and text of each.
 fn item_faults(program: &Program, item: &Item, rule: Rule) -> Vec<(usize, String)> {
     let divisions = item.body.divisions.iter().map(|division| (division.line, rule.fault_of_division(division)));
-    let calls = item.body.calls.iter();
-    let calls = calls.map(|call| (call.line, rule.fault_of_call(call, &program.target(item, call))));
+    let calls = program.calls(item).map(|call| (call.line, rule.fault_of_call(call, &program.target(item, call))));
     divisions.chain(calls).filter_map(|(line, fault)| Some((line, fault?))).collect()
 }

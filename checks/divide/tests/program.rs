@@ -112,8 +112,8 @@ fn what_cannot_be_read() {
     let no_archive = divide(&[text(&root), "no/such/libcdrom.a"]);
     assert_eq!(no_archive.status.code(), Some(1));
     assert!(told(&no_archive).contains("objdump cannot read no/such/libcdrom.a"), "{}", told(&no_archive));
-    let other = tree("unread_other", "type A = u8;");
-    assert!(told(&divide(&[text(&other), text(&archive)])).contains("crates/exports/src/lib.rt:1: `type`"));
+    let other = tree("unread_other", "union A {}");
+    assert!(told(&divide(&[text(&other), text(&archive)])).contains("crates/exports/src/lib.rt:1: `union`"));
 }
 
 #[test]

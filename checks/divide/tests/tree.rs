@@ -5,7 +5,7 @@ use std::path::Path;
 
 const HEADER: &str = "crates/sector/src/header.rt";
 const CHECKS: &str = "crates/sector/src/checks.rt";
-const NUMBERS: &str = "crates/numbers/src/lib.rt";
+const LAYOUT: &str = "crates/sector/src/layout.rt";
 const EXPORTS: &str = "crates/exports/src/lib.rt";
 const RING: &str = "crates/ring/src/lib.rt";
 const TRANSFER: &str = "crates/controller/src/transfer.rt";
@@ -32,13 +32,17 @@ fn replaced(file: &str, old: &str, new: &str) -> Tree {
 /// nothing else.
 fn with_line(file: &str, function: &str, line: &str) -> Tree {
     let mut tree = tree();
+    put_line(&mut tree, file, function, line);
+    tree
+}
+
+fn put_line(tree: &mut Tree, file: &str, function: &str, line: &str) {
     let text = tree.files.get_mut(file).unwrap_or_else(|| panic!("{file} is missing"));
     let name = text.find(&format!("fn {function}(")).unwrap_or_else(|| panic!("{file} has no {function}"));
     let lines = text[name..].split_inclusive('\n');
     let front: usize = lines.take_while(|line| line.trim() != "{").map(str::len).sum();
     let brace = name + front + text[name + front..].find('{').expect("a body");
     text.insert_str(brace + 1, &format!("\n{line}\n"));
-    tree
 }
 
 fn checked(tree: &Tree) -> Sources {
@@ -84,10 +88,10 @@ fn the_roots_reach_what_they_call() {
 #[test]
 fn the_exported_calls_reach_most_functions() {
     let sources = checked(&tree());
-    let expected = "scramble::scramble scramble::scramble_into scramble::xor scramble::table edc::edc edc::put \
+    let expected = "scramble::scramble scramble::scramble_into scramble::table edc::edc edc::Ring::put \
         ring::after controller::within_words controller::Controller::write_acctl encoding::decode \
-        encoding::encode chip::Chip::sound burst::host_words sector::Address::next sector::address_holds sector::form \
-        slices::word_at";
+        encoding::encode chip::Chip::sound burst::host_words sector::Address::next sector::address_holds \
+        sector::Kind::form sector::Kind::try_from slices::word_at";
     for title in expected.split_whitespace() {
         assert!(sources.from_calls.contains(&title.to_string()), "{title} of {:?}", sources.from_calls);
     }
@@ -115,8 +119,8 @@ fn digits_by_division() {
 /// Sealing's digits are reached as soon as the comparison takes them.
 #[test]
 fn digits_of_sealing() {
-    let tree = with_line(CHECKS, "address_holds", "let expected = header::bytes_of(address);");
-    let chain = "address_holds -> bytes_of -> to_bcd".to_string();
+    let tree = with_line(CHECKS, "address_holds", "let expected = address.bytes();");
+    let chain = "address_holds -> Address::bytes -> to_bcd".to_string();
     let expected = [(nothing_may("/ 10"), chain.clone()), (nothing_may("% 10"), chain)];
     assert_eq!(found(&tree, "to_bcd")[..2], expected);
 }
@@ -143,16 +147,66 @@ fn a_remainder_in_a_method_that_is_reached() {
 /// By a power of two, which rule 1 forbids and rule 2 does not; and in another crate.
 #[test]
 fn a_division_by_two() {
-    let mut tree = with_line(HEADER, "is_bcd_of", "let w = numbers::wide(byte);");
-    let text = tree.files.get_mut(NUMBERS).unwrap();
-    *text = text.replacen("    byte as u16\n", "    (byte / 2) as u16\n", 1);
-    let chain = "address_holds -> is_bcd_of -> wide".to_string();
-    assert_eq!(found(&tree, "wide"), [(nothing_may("/ 2"), chain)]);
+    let mut tree = with_line(HEADER, "is_bcd_of", "let code = edc::edc(&[byte]);");
+    put_line(&mut tree, EDC, "edc", "let half = bytes.len() / 2;");
+    let chain = "address_holds -> is_bcd_of -> edc".to_string();
+    assert_eq!(found(&tree, "edc")[0], (nothing_may("/ 2"), chain));
     let tree = with_line(HEADER, "is_bcd_of", "let low = byte % 0x10;");
     assert_eq!(found(&tree, "is_bcd_of"), [(nothing_may("% 0x10"), "address_holds -> is_bcd_of".to_string())]);
     let tree = with_line(HEADER, "valid", "let low = self.minute % 16;");
     let chain = "cdrom_next_address -> Address::valid".to_string();
     assert_eq!(found(&tree, "Address::valid"), [(nothing_may("% 16"), chain)]);
+}
+
+/// In forms of code in which it could be passed over.
+#[test]
+fn a_division_in_other_forms() {
+    let lines = [
+        "let tens = Some(n).map_or(0, |n| n / 10);",
+        "let Some(tens) = Some(n / 10) else { return false };",
+        "if matches!(n / 10, 1 | 2) { return false; }",
+        "#[tactic(auto)]\nlet [a, b] = [n / 10; 2];",
+        "let text = \"a \\\n \\\" b\"; let sign = '\"'; let tens = n / 10;",
+        "let tens = |n: u16| requires { n / 3 < 9 } { n / 10 };",
+        "let tens = Address { minute: n / 10, ..Address::default() };",
+    ];
+    for line in lines {
+        let faults = found(&with_line(HEADER, "is_bcd_of", line), "is_bcd_of");
+        let chain = "address_holds -> is_bcd_of".to_string();
+        assert!(faults.contains(&(nothing_may("/ 10"), chain)), "{line}: {faults:?}");
+        assert!(!faults.iter().any(|(fault, _)| fault.contains("/ 3")), "{line}: {faults:?}");
+    }
+}
+
+#[test]
+fn a_division_behind_other_forms_of_calls() {
+    let text = "
+        const TEN: u16 = 10;
+        fn tens<const N: u16>(n: u16) -> u16 { n / N }
+        trait Tens { fn tens(self) -> u16; }
+        impl Tens for u16 { fn tens(self) -> u16 { self / TEN } }
+        impl From<Address> for [u8; 3] { fn from(address: Address) -> [u8; 3] { [address.minute / 10; 3] } }";
+    let lines = [
+        ("is_bcd_of", "let a = tens::<TEN>(n);", "tens", "address_holds -> is_bcd_of -> tens"),
+        ("is_bcd_of", "let a = n.tens();", "u16::tens", "address_holds -> is_bcd_of -> u16::tens"),
+        ("is_bcd_of", "let a = <u16 as Tens>::tens(n);", "u16::tens", "address_holds -> is_bcd_of -> u16::tens"),
+        ("is_bcd_of", "let a = f(Tens::tens);", "u16::tens", "address_holds -> is_bcd_of -> u16::tens"),
+        ("valid", "let a: [u8; 3] = self.into();", "[::from", "Address::next -> Address -> [::from"),
+    ];
+    for (function, line, title, chain) in lines {
+        let mut tree = with_line(HEADER, function, line);
+        tree.files.get_mut(HEADER).unwrap().push_str(text);
+        let faults = found(&tree, title);
+        assert!(faults.iter().any(|(_, other)| other == chain), "{line}: {faults:?}");
+    }
+}
+
+#[test]
+fn a_division_in_a_function_of_a_trait() {
+    let front = "fn try_from(number: u16) -> Result<Kind, Refusal> {";
+    let tree = replaced(LAYOUT, front, &format!("{front} let third = number / 3;"));
+    let faults = found(&tree, "Kind::try_from");
+    assert!(faults.iter().any(|(fault, _)| *fault == no_power("/ 3")), "{faults:?}");
 }
 
 #[test]

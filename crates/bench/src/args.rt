@@ -18,33 +18,32 @@ const LINES: &str =
 // Where the lines come from.
 #[derive(Drop)]
 pub(crate) enum Source<F> {
-    Nothing,
     Standard,
     Opened(F),
 }
 
 // The usage, where the arguments are not understood. That it cannot be written is nothing to tell.
-fn refused<R: Eprint, F>(rt: &R) -> Source<F> {
+fn refused<R: Eprint, F>(rt: &R) -> Option<Source<F>> {
     let _ = eprintln!(rt; "{USAGE}\n{WHAT}\n{LINES}");
-    Source::Nothing
+    None
 }
 
 // Opens a file by its name, and tells where that fails.
-fn opened<R: Files + Eprint>(rt: &R, name: &str) -> Source<R::File> {
+fn opened<R: Files + Eprint>(rt: &R, name: &str) -> Option<Source<R::File>> {
     match fs::open(rt, name) {
-        Ok(file) => Source::Opened(file),
+        Ok(file) => Some(Source::Opened(file)),
         Err(error) => {
             tell(rt, name, error);
-            Source::Nothing
+            None
         }
     }
 }
 
 // What the one argument asks for. A file whose name begins with `-` is named as `./-NAME`.
-fn asked<R: Files + Print + Eprint>(rt: &R, word: &str) -> Source<R::File> {
+fn asked<R: Files + Print + Eprint>(rt: &R, word: &str) -> Option<Source<R::File>> {
     if word == "--help" {
         let _ = println!(rt; "{USAGE}\n{WHAT}\n{LINES}");
-        return Source::Nothing;
+        return None;
     }
     if word.starts_with('-') {
         return refused(rt);
@@ -53,20 +52,20 @@ fn asked<R: Files + Print + Eprint>(rt: &R, word: &str) -> Source<R::File> {
 }
 
 // What the first argument asks for, where there is no second.
-fn first<R: Env + Files + Print + Eprint>(rt: &R) -> Source<R::File> {
+fn first<R: Env + Files + Print + Eprint>(rt: &R) -> Option<Source<R::File>> {
     let mut space = [0u8; LONGEST];
     match rt.arg(1, &mut space) {
         Ok(size) => match str::from_utf8(&space[..size]) {
             Ok(word) => asked(rt, word),
             Err(error) => {
                 let _ = eprintln!(rt; "argument: {error}");
-                Source::Nothing
+                None
             }
         },
-        Err(FillError::NotPresent) => Source::Standard,
+        Err(FillError::NotPresent) => Some(Source::Standard),
         Err(FillError::TooLong) => {
             let _ = eprintln!(rt; "argument: File name too long");
-            Source::Nothing
+            None
         }
     }
 }
@@ -76,8 +75,8 @@ fn has_argument<R: Env>(rt: &R, number: usize) -> bool {
     !matches!(rt.arg(number, &mut []), Err(FillError::NotPresent))
 }
 
-// What the arguments ask for.
-pub(crate) fn requested<R: Env + Files + Print + Eprint>(rt: &R) -> Source<R::File> {
+// What the arguments ask for; none where that is no run, or is told.
+pub(crate) fn requested<R: Env + Files + Print + Eprint>(rt: &R) -> Option<Source<R::File>> {
     if has_argument(rt, 2) {
         return refused(rt);
     }

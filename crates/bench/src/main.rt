@@ -4,11 +4,9 @@
 
 mod args;
 
-ghost use Rattle.std.specs.Prelude.{◌+◌, ◌≤◌, ◌≡◌, length};
-ghost use Rattle.syntax.specs.Print.{room};
+ghost use Rattle.std.specs.Prelude.{◌≤◌, length, IfOk};
 
 use args::Source;
-use numbers::least_length;
 use script::{Bench, feed};
 use std::fmt::InlineText;
 use std::io;
@@ -27,78 +25,103 @@ const REASON: usize = 256;
 fn tell<R: Eprint>(rt: &R, what: &str, error: io::Error) {
     let text = InlineText::<REASON>::of(error);
     let words = text.as_str();
-    let reason = match words.split_once(" (os error ") {
-        Some((before, _)) => before,
-        None => words,
-    };
+    let reason = words
+        .split_once(" (os error ")
+        .map_or(words, |(before, _)| before);
     let _ = eprintln!(rt; "{what}: {reason}");
 }
 
-// Writes the first bytes of the output, and tells where that fails.
-fn put<R: Print + Eprint>(rt: &R, output: &[u8], size: usize) -> bool
-    requires { size ≤ length output.now }
-{
-    match rt.write_all(&output[..size]) {
-        Ok(()) => true,
-        Err(error) => {
-            tell(rt, "write", error);
-            false
+// What keeps a run from its end.
+#[derive(Drop)]
+enum Failure {
+    Read(io::Error),
+    Write(io::Error),
+}
+
+// The bench with its buffers: the ring's memory, the sector and the answers.
+#[derive(Drop)]
+struct Runner {
+    bench: Bench,
+    memory: [u8; 64000],
+    sector: [u8; sector::LENGTH],
+    output: [u8; BUFFER],
+}
+
+impl Runner {
+    fn new() -> Runner {
+        Runner {
+            bench: Bench::start(),
+            memory: [0; 64000],
+            sector: [0; sector::LENGTH],
+            output: [0; BUFFER],
         }
     }
-}
 
-// The bench after lines of the input were run: where they began, how many bytes they took, and whether their answers were written.
-#[derive(Drop)]
-struct Turn {
-    bench: Bench,
-    at: usize,
-    taken: usize,
-    written: bool,
-}
+    // Runs every line of the input that has an end, as many at a time as the output has room for, and writes their answers. What follows the last of them
+    // begins at the place that it gives.
+    fn run_lines<R: Print>(&mut self, rt: &R, input: &[u8]) -> Result<usize, Failure>
+        ensures { IfOk result (λ at. at ≤ length input.now) }
+    {
+        let mut at = 0;
+        loop {
+            let fed = feed(
+                self.bench,
+                &mut self.memory,
+                &mut self.sector,
+                &input[at..],
+                &mut self.output,
+            );
+            self.bench = fed.bench;
+            put(rt, &self.output[..fed.size])?;
+            if fed.taken == 0 {
+                return Ok(at);
+            }
+            at += fed.taken;
+        }
+    }
 
-// Runs lines from a place on, as many as the output has room for, and writes their answers.
-fn run_some<R: Print + Eprint>(
-    rt: &R,
-    bench: Bench,
-    input: &[u8],
-    at: usize,
-    memory: &mut [u8],
-    sector: &mut [u8],
-    output: &mut [u8],
-) -> Turn
-    requires { at ≤ length input.now }
-    ensures at_value { result.at ≡ at }
-    ensures taken_in_bounds { result.at + result.taken ≤ length input.now }
-{
-    let fed = feed(bench, memory, sector, &input[at..], output);
-    let next = fed.bench;
-    let written = put(rt, output, fed.size);
-    Turn {
-        bench: next,
-        at: at,
-        taken: fed.taken,
-        written: written,
+    // Runs what the input ends with, if it is a line with no end.
+    fn run_last<R: Print>(&mut self, rt: &R, line: &[u8]) -> Result<(), Failure> {
+        if line.is_empty() {
+            return Ok(());
+        }
+        let ran = self
+            .bench
+            .run(&mut self.memory, &mut self.sector, line, &mut self.output);
+        put(rt, &self.output[..ran.size])
+    }
+
+    // Reads the input to its end in such a buffer, and runs its lines.
+    // A proved loop has to end, and nothing says that the input does: the reads are counted, up to a number that no run comes to.
+    fn run<R: Print, I: Read>(
+        &mut self,
+        rt: &R,
+        from: &mut I,
+        input: &mut [u8; BUFFER],
+    ) -> Result<(), Failure> {
+        let mut kept = 0;
+        for _ in 0..u64::MAX {
+            let end = kept + read(from, &mut input[kept..])?;
+            if end == kept {
+                break;
+            }
+            let rest = self.run_lines(rt, &input[..end])?;
+            kept = keep(input, rest, end);
+        }
+        self.run_last(rt, &input[..kept])
     }
 }
 
-// Runs every line of the input that has an end. What follows the last of them begins at the answer's `at`.
-fn run_lines<R: Print + Eprint>(
-    rt: &R,
-    start: Bench,
-    input: &[u8],
-    memory: &mut [u8],
-    sector: &mut [u8],
-    output: &mut [u8],
-) -> Turn
-    ensures { result.at ≤ length input.now }
+// Writes answers.
+fn put<R: Print>(rt: &R, output: &[u8]) -> Result<(), Failure> {
+    rt.write_all(output).map_err(|error| Failure::Write(error))
+}
+
+// Reads once, and gives how many bytes came: none where the input has ended.
+fn read<I: Read>(from: &mut I, input: &mut [u8]) -> Result<usize, Failure>
+    ensures { IfOk result (λ got. got ≤ length input.new) }
 {
-    let mut turn = run_some(rt, start, input, 0, memory, sector, output);
-    while turn.taken > 0 && turn.written {
-        let bench = turn.bench;
-        let at = turn.at + turn.taken;
-        turn = run_some(rt, bench, input, at, memory, sector, output);
-    }
-    turn
+    from.read(input).map_err(|error| Failure::Read(error))
 }
 
 // Moves what was read of a line with no end yet to the front, and gives its length.
@@ -107,164 +130,26 @@ fn keep(input: &mut [u8], rest: usize, end: usize) -> usize
     requires end_in_bounds { end ≤ length input.old }
     ensures { result ≤ 81 }
 {
-    let size = least_length(KEPT, end - rest);
+    let size = KEPT.min(end - rest);
     input.copy_within(rest..rest + size, 0);
     size
 }
 
-// What a read brought: the place after the bytes, and whether it failed. Where the input has ended no byte came.
-#[derive(Drop)]
-struct Came {
-    end: usize,
-    failed: bool,
-}
-
-// Reads once, behind the bytes that are kept, and tells where that fails.
-fn read_more<R: Eprint, I: Read>(rt: &R, from: &mut I, input: &mut [u8], kept: usize) -> Came
-    requires { kept ≤ length input.old }
-    ensures kept_le_end { kept ≤ result.end }
-    ensures end_in_bounds { result.end ≤ length input.new }
-{
-    match from.read(&mut input[kept..]) {
-        Ok(got) => Came {
-            end: kept + got,
-            failed: false,
-        },
-        Err(error) => {
-            tell(rt, "read", error);
-            Came {
-                end: kept,
-                failed: true,
-            }
-        }
-    }
-}
-
-// The bench between two reads: the bytes of an unended line at the front of the input buffer, whether to read on, and whether a read or
-// a write has failed.
-#[derive(Drop)]
-struct Round {
-    bench: Bench,
-    kept: usize,
-    goes_on: bool,
-    failed: bool,
-}
-
-// Reads once, runs the lines that ended and writes their answers.
-fn read_once<R: Print + Eprint, I: Read>(
-    rt: &R,
-    from: &mut I,
-    round: Round,
-    input: &mut [u8],
-    memory: &mut [u8],
-    sector: &mut [u8],
-    output: &mut [u8],
-) -> Round
-    requires in_bounds { 81 ≤ length input.old }
-    requires kept_bound { round.kept ≤ 81 }
-    ensures { result.kept ≤ 81 }
-{
-    let bench = round.bench;
-    let kept = round.kept;
-    let came = read_more(rt, from, input, kept);
-    let end = came.end;
-    if end == kept {
-        return Round {
-            bench: bench,
-            kept: kept,
-            goes_on: false,
-            failed: came.failed,
-        };
-    }
-    let turn = run_lines(rt, bench, &input[..end], memory, sector, output);
-    let next = turn.bench;
-    let rest = turn.at;
-    Round {
-        bench: next,
-        kept: keep(input, rest, end),
-        goes_on: turn.written,
-        failed: !turn.written,
-    }
-}
-
-// A proved loop has to end, and nothing says that the input does: the reads are counted, up to a number that no run comes to.
-fn read_all<R: Print + Eprint, I: Read>(
-    rt: &R,
-    from: &mut I,
-    start: Bench,
-    input: &mut [u8],
-    memory: &mut [u8],
-    sector: &mut [u8],
-    output: &mut [u8],
-) -> Round
-    requires { 81 ≤ length input.old }
-    ensures { result.kept ≤ 81 }
-{
-    let mut round = Round {
-        bench: start,
-        kept: 0,
-        goes_on: true,
-        failed: false,
-    };
-    for _ in 0..u64::MAX {
-        if !round.goes_on {
-            break;
-        }
-        round = read_once(rt, from, round, input, memory, sector, output);
-    }
-    round
-}
-
-// A last line may have no end. What came of a line before a read failed is not one.
-fn last<R: Print + Eprint>(
-    rt: &R,
-    round: Round,
-    input: &[u8],
-    memory: &mut [u8],
-    sector: &mut [u8],
-    output: &mut [u8],
-)
-    requires kept_in_bounds { round.kept ≤ length input.now }
-    requires room_in_bounds { room ≤ length output.old }
-{
-    let bench = round.bench;
-    let kept = round.kept;
-    if (kept == 0) | round.failed {
-        return;
-    }
-    let ran = bench.run(memory, sector, &input[..kept], output);
-    put(rt, output, ran.size);
-}
-
-// Runs the lines of an input to its end, in lent buffers.
-fn run_all<R: Print + Eprint, I: Read>(
-    rt: &R,
-    from: &mut I,
-    input: &mut [u8],
-    memory: &mut [u8],
-    sector: &mut [u8],
-    output: &mut [u8],
-)
-    requires in_bounds { 81 ≤ length input.old }
-    requires room_in_bounds { room ≤ length output.old }
-{
-    let end = read_all(rt, from, Bench::start(), input, memory, sector, output);
-    last(rt, end, input, memory, sector, output);
-}
-
-// The same in buffers of its own.
+// Runs the lines of an input, and tells what failed of it. What came of a line before a read failed is not one.
 fn run<R: Print + Eprint, I: Read>(rt: &R, from: &mut I) {
-    let mut sector = [0u8; 2352];
-    let mut memory = [0u8; 64000];
+    let mut runner = Runner::new();
     let mut input = [0u8; BUFFER];
-    let mut output = [0u8; BUFFER];
-    run_all(rt, from, &mut input, &mut memory, &mut sector, &mut output);
+    match runner.run(rt, from, &mut input) {
+        Ok(()) => {}
+        Err(Failure::Read(error)) => tell(rt, "read", error),
+        Err(Failure::Write(error)) => tell(rt, "write", error),
+    }
 }
 
 fn main(rt: HostRuntime) {
     match args::requested(&rt) {
-        Source::Nothing => {}
-        Source::Standard => run(&rt, &mut rt.stdin()),
-        Source::Opened(mut file) => run(&rt, &mut file),
+        None => {}
+        Some(Source::Standard) => run(&rt, &mut rt.stdin()),
+        Some(Source::Opened(mut file)) => run(&rt, &mut file),
     }
 }

@@ -1,12 +1,12 @@
 -- Words inside a block: each leaves a sound chip one word on, so that many of them are one run. Assumes nothing.
 use Prim.Native.Nat.{ℕ, zero, suc, ◌+◌, ◌-◌, ◌*◌, ◌<◌, ◌≤◌}
 use mathlib.Core.Path.{◌≡◌, refl, sym, ◌∙◌, ap, ap₂}
-use mathlib.Core.Bool.{Bool, true, false, ◌&&◌, not}
+use mathlib.Core.Bool.{true, false, ◌&&◌, not}
 use mathlib.Core.List.{List, [], ◌∷◌}
 use native.Mathlib.Omega.{arith}
 use lib.Dec.{eqb}
 use lib.ListN.{length}
-use borrow.Author.Tests.{not-true, not-false, eqb-true, lt-ltb}
+use borrow.Author.Tests.{eqb-true, lt-ltb}
 use Rattle.laws.specs.Bytes.{words_at}
 use Rattle.laws.proofs.Choice.{if_case, if_false, right_false}
 use Rattle.laws.proofs.Tests.{and3}
@@ -20,8 +20,7 @@ use Rattle.chip.specs.Calls.{next_place, next_word, word_told}
 use Rattle.chip.specs.Chip.{ring_fits}
 use Rattle.chip.specs.Sound.{sound}
 use Rattle.chip.specs.declared.Chip.{Chip}
-use Rattle.chip.specs.declared.Word.TheVariants.{Handed}
-use Rattle.chip.specs.declared.WordTold.{WordTold}
+use Rattle.chip.specs.Told.{Handed, WordTold}
 use Rattle.chip.proofs.Sounds.{sound_facts, facts_sound}
 use Rattle.burst.specs.Burst.{prepend, by_word, host_words, ahead, advanced}
 
@@ -33,27 +32,13 @@ pub record Inside (c : Chip) (ring : List ℕ) (k : ℕ) : Type 0 where
   pub room : c.controller.transfer.position + k < c.controller.window.words
 
 module _ (c : Chip) (ring : List ℕ) where
-  abbrev runs : Bool
-  runs = c.controller.transfer.running
-
-  -- what the code computes of it
-  module _ {f : Bool} (is : f ≡ (sound c && ring_fits c ring)) where
-    pub ahead_none : not (f && runs) ≡ true → 0 ≡ ahead c ring
-    unfolding ahead
-    ahead_none h = let e = not-true (f && runs) h in let g = sym (ap (λ (b : Bool). b && runs) is) ∙ e in simp g
-
-    pub ahead_some : not (f && runs) ≡ false → {x : ℕ} → x ≡ c.controller.window.words - 1 → {y : ℕ} → y ≡ x - c.controller.transfer.position
-        → y ≡ ahead c ring
-    unfolding ahead
-    ahead_some h ex ey = let e = not-false (f && runs) h in let g = sym (ap (λ (b : Bool). b && runs) is) ∙ e in simp (g, ey, ex)
-
   pub inside_of : (k : ℕ) → 0 < k → k ≤ ahead c ring → Inside c ring k
   unfolding ahead
   inside_of k h =
-      if_case (λ (n : ℕ). k ≤ n → Inside c ring k) (sound c && ring_fits c ring && runs)
+      if_case (λ (n : ℕ). k ≤ n → Inside c ring k) (sound c && ring_fits c ring && c.controller.transfer.running)
       (c.controller.window.words - 1 - c.controller.transfer.position) 0
       (λ t l.
-      let a = and3 (sound c) (ring_fits c ring) runs t in
+      let a = and3 (sound c) (ring_fits c ring) c.controller.transfer.running t in
       record { sound_record = a.0; fits = a.1; running = a.2; room = omega arith })
       (λ t l. absurd (omega arith))
 
@@ -72,6 +57,13 @@ module _ (c : Chip) (ring : List ℕ) where
       let f = sound_facts c h.sound_record in
       let e = window_end c.controller.window.offset c.controller.window.words f.window (λ (z : c.controller.window.words ≡ 0). omega arith) in
       omega arith
+
+  -- the same of words that are ahead
+  pub ahead_end : (k : ℕ) → 0 < k → k ≤ ahead c ring → next_place c + 2 * k ≤ length ring
+  ahead_end k some far = inside_end k (inside_of k some far)
+
+  pub ahead_small : (k : ℕ) → 0 < k → k ≤ ahead c ring → c.controller.transfer.position + k < 65536
+  ahead_small k some far = inside_small k (inside_of k some far)
 
   module _ (h : Inside c ring 1) where
     abbrev moved : Controller

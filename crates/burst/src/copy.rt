@@ -9,9 +9,7 @@ pub(crate) fn copy_words(ring: &[u8], from: usize, out: &mut [u16])
     requires { from + 2 * length out.old ≤ length ring.now }
     ensures { out.new ≡ words_at ring.now from (length out.old) }
 {
-    let mut i: usize = 0;
-    while i < out.len() {
-        out[i] = word_at(ring, from + 2 * i);
-        i += 1;
+    for (i, word) in out.iter_mut().enumerate() {
+        *word = word_at(ring, from + 2 * i);
     }
 }

@@ -9,14 +9,11 @@ use Rattle.controller.specs.Host.{host_word}
 use Rattle.controller.specs.Transfer.{concluded}
 use Rattle.ring.specs.Memory.{base, stored}
 use Rattle.ring.specs.Place.{full, ring_facts}
-use Rattle.chip.specs.Chip.{refused, ring_fits, finished}
+use Rattle.chip.specs.Chip.{ring_fits, finished}
+use Rattle.chip.specs.Told.{refused, Told, Word, Handed, Refused, WordTold}
 use Rattle.chip.specs.Sound.{sound}
 use Rattle.chip.specs.declared.Chip.{Chip}
 use Rattle.chip.specs.declared.Part.{Part}
-use Rattle.chip.specs.declared.Told.{Told}
-use Rattle.chip.specs.declared.Word.{Word}
-use Rattle.chip.specs.declared.Word.TheVariants.{Handed, Refused}
-use Rattle.chip.specs.declared.WordTold.{WordTold}
 
 -- a call that touches no memory: 1 for an unsound record, else the controller's step, concluded
 unfoldable pub called : Chip → Call → Told

@@ -1,25 +1,31 @@
 -- The chip record: the controller and the ring's place; its opening, and how a controller step becomes an answer (paper 01, "Reply numbers",
 -- "The ring"). Assumes nothing.
-use Rattle.std.specs.Prelude.{ℕ, ◌*◌, Bool, ◌&&◌, List, leb, eqb, length, if◌then◌else◌}
-use Rattle.reply.specs.Reply.{refusal, answer}
+use Rattle.std.specs.Prelude.{ℕ, ◌*◌, Bool, ◌&&◌, List, leb, eqb, length, Result, Ok, Err, if◌then◌else◌}
+use Rattle.reply.specs.Reply.{answer, number}
+use Rattle.reply.specs.declared.Refusal.{Refusal}
+use Rattle.controller.specs.Step.{Step}
 use Rattle.controller.specs.Fields.{◌▹◌, position≔}
 use Rattle.controller.specs.State.{initial}
-use Rattle.controller.specs.declared.step.Step.{Step}
 use Rattle.ring.specs.Place as ring
 use Rattle.ring.specs.Place.{place_step}
 use Rattle.ring.specs.declared.Place.{Place}
 use Rattle.chip.specs.declared.Chip.{Chip}
-use Rattle.chip.specs.declared.Told.{Told}
+use Rattle.chip.specs.Told.{Told, refused}
 
--- a refusal: its number, a zero result, and the chip as it was
-abbrev pub refused : Chip → ℕ → Told
-refused c number = record { chip = c; reply = refusal number }
+-- a record of no blocks, with all else as opened
+abbrev pub closed : Chip
+closed = record { controller = initial; place = ring.opened 0 }
 
 -- opening: N outside 3..255 is 1, and gives a record with N = 0
 unfoldable pub opened : ℕ → Told
 opened n =
     if leb 3 n && leb n 255 then record { chip = record { controller = initial; place = ring.opened n }; reply = answer 0 }
-    else refused (record { controller = initial; place = ring.opened 0 }) 1
+    else refused closed 1
+
+-- the answer of an opening
+abbrev pub opened_of : Result Chip Refusal → Told
+opened_of (Ok c) = record { chip = c; reply = answer 0 }
+opened_of (Err r) = refused closed (number r)
 
 -- the chip at another position in its transfer
 abbrev pub at_position : Chip → ℕ → Chip

@@ -6,9 +6,7 @@ use Rattle.outcomes.specs.Machine.{Call, plain, sector, look, word, Answer, repl
 use Rattle.chip.specs.Chip.{opened}
 use Rattle.chip.specs.Calls.{called, sector_told, sector_ring, looked, word_told, word_number, word_value}
 use Rattle.chip.specs.declared.Chip.{Chip}
-use Rattle.chip.specs.declared.Told.{Told}
-use Rattle.chip.specs.declared.Word.{Word}
-use Rattle.chip.specs.declared.Word.TheVariants.{Handed, Refused}
+use Rattle.chip.specs.Told.{Told, Word, Handed, Refused}
 
 pub record State : Type 0 where
   pub chip : Chip

@@ -7,100 +7,72 @@ mod plain;
 mod sound;
 
 ghost use Rattle.std.specs.Prelude.{◌≡◌};
-ghost use Rattle.chip.specs.Chip.{refused, opened, finished};
+ghost use Rattle.controller.specs.Step.{accepted};
 ghost use Rattle.controller.specs.Transfer.{concluded};
 ghost use Rattle.ring.specs.Place.{PlaceSound};
+ghost use Rattle.chip.specs.Chip.{closed, opened, opened_of, finished};
+ghost use Rattle.chip.specs.Told.{accepted_told};
 
-use controller::{Controller, Step};
-use reply::Reply;
+use controller::Controller;
+use reply::{Refusal, refuse_if};
 use ring::Place;
 
-#[derive(Clone, Copy)]
+#[derive(Clone, Copy, Debug, PartialEq, Eq, Default)]
 pub struct Chip {
     pub controller: Controller,
     pub place: Place,
 }
 
-#[derive(Clone, Copy)]
-pub struct Told {
+// A call that was not refused: the chip afterwards, and the result or the word that is handed over.
+#[derive(Clone, Copy, Debug, PartialEq, Eq)]
+pub struct Accepted {
     pub chip: Chip,
-    pub reply: Reply,
-}
-
-// A word is handed over or a refusal, never both.
-#[derive(Clone, Copy)]
-pub enum Word {
-    Handed(u16),
-    Refused(u8),
-}
-
-#[derive(Clone, Copy)]
-pub struct WordTold {
-    pub chip: Chip,
-    pub word: Word,
+    pub value: u16,
 }
 
 // A part of the ring: its first byte and how many it has.
-#[derive(Clone, Copy)]
+#[derive(Clone, Copy, Debug, PartialEq, Eq, Default)]
 pub struct Part {
     pub start: usize,
     pub size: usize,
 }
 
 impl Chip {
-    // Ruled out: one that takes a ring of 2 or 256 blocks, and one that opens with TCC 1.
-    pub fn open(n: u16) -> Told
-        ensures { result ≡ opened n }
+    // A record of no blocks, which every call but the opening refuses.
+    // Ruled out: a record of 3 blocks.
+    pub fn closed() -> Chip
+        ensures { result ≡ closed }
     {
-        let controller = Controller::initial();
-        if (3 <= n) & (n <= 255) {
-            let place = Place::opened(n);
-            return Told {
-                chip: Chip {
-                    controller: controller,
-                    place: place,
-                },
-                reply: Reply {
-                    number: 0,
-                    result: 0,
-                },
-            };
+        Chip {
+            controller: Controller::initial(),
+            place: Place::opened(0),
         }
-        let place = Place::opened(0);
-        let chip = Chip {
-            controller: controller,
-            place: place,
-        };
-        chip.refuse(1)
     }
 
-    fn refuse(self, number: u8) -> Told
-        ensures { result ≡ refused self number }
+    // Ruled out: one that takes a ring of 2 or 256 blocks, and one that opens with TCC 1.
+    #[tactic(auto, unfolding(crate::specs::Chip::opened))]
+    pub fn open(n: u16) -> Result<Chip, Refusal>
+        ensures { opened_of result ≡ opened n }
     {
-        Told {
-            chip: self,
-            reply: Reply {
-                number: number,
-                result: 0,
-            },
-        }
+        refuse_if(!((3 <= n) & (n <= 255)), Refusal::Unfit)?;
+        Ok(Chip {
+            controller: Controller::initial(),
+            place: Place::opened(n),
+        })
     }
 }
 
 // The end of every call for which the controller has taken its step.
-fn conclude(place: Place, taken: Step) -> Told
+fn conclude(place: Place, step: controller::Accepted) -> Accepted
     requires { PlaceSound place }
-    ensures { result ≡ finished place (concluded taken) }
+    ensures { accepted_told result ≡ finished place (concluded (accepted step)) }
 {
-    let step = taken.conclude();
-    let controller = step.controller;
-    let event = step.event;
-    let reply = step.reply;
-    Told {
+    let step = step.conclude();
+    Accepted {
         chip: Chip {
-            controller: controller,
-            place: place.step(event),
+            controller: step.controller,
+            place: place.step(step.event),
         },
-        reply: reply,
+        value: step.value,
     }
 }

@@ -1,10 +1,15 @@
 // The calls that the ring's memory is lent to: a sector, a look at the oldest block, and the host's word.
 ghost use Rattle.std.specs.Prelude.{◌≡◌, ◌&&◌};
+ghost use Rattle.reply.specs.Reply.{number_of};
+ghost use Rattle.chip.specs.Calls.{sector_number, lent, sector_lent, look_part, looked, word_told};
 ghost use Rattle.chip.specs.Chip.{ring_fits};
 ghost use Rattle.chip.specs.Sound.{sound};
-ghost use Rattle.chip.specs.Calls.{sector_number, lent, sector_lent, look_part, looked, word_told};
+ghost use Rattle.chip.specs.Told.{told_of, word_told_of};
 
-use crate::{Chip, Part, Told, Word, WordTold, conclude};
+use crate::{Accepted, Chip, Part, conclude};
+use reply::{Refusal, refuse_if};
+use ring::BLOCK;
+use sector::LENGTH;
 
 impl Chip {
     // What every call with a lent ring tests first: a sound record, and a ring of its N blocks.
@@ -12,54 +17,48 @@ impl Chip {
     pub fn ready(self, ring: &[u8]) -> bool
         ensures { result ≡ (sound self && ring_fits self ring.now) }
     {
-        let place = self.place;
-        self.sound() & (ring.len() == place.n as usize * 2560)
+        self.sound() & (ring.len() == self.place.n as usize * BLOCK)
     }
 
-    // The reply number of a sector, before a byte of it is moved: of the sector only its length is looked at.
+    // Whether a sector is taken, before a byte of it is moved: of the sector only its length is looked at.
     // Ruled out: one that admits a sector at the ring's stop, and one that answers 7 or 8 where a length is wrong.
-    pub fn sector_number(self, ring: &[u8], sector: &[u8]) -> u8
-        ensures { result ≡ sector_number self ring.now sector.now }
+    #[tactic(auto, unfolding(crate::specs::Calls::sector_number))]
+    pub fn admission(self, ring: &[u8], sector: &[u8]) -> Result<(), Refusal>
+        ensures { number_of result ≡ sector_number self ring.now sector.now }
     {
-        if !(self.ready(ring) & (sector.len() == 2352)) {
-            return 1;
-        }
-        let controller = self.controller;
-        let place = self.place;
-        controller.admission(place.full())
+        refuse_if(
+            !(self.ready(ring) & (sector.len() == LENGTH)),
+            Refusal::Unfit,
+        )?;
+        self.controller.admission(self.place.full())
     }
 
     // Ruled out: one that counts a bad sector in TCC too, and one that stores a sector it refuses.
-    pub fn sector(mut self, ring: &mut [u8], sector: &[u8]) -> Told
-        ensures { lent result ring.new ≡ sector_lent self ring.old sector.now }
+    #[tactic(auto, unfolding(crate::specs::Calls::sector_told, crate::specs::Calls::sector_ring))]
+    pub fn sector(self, ring: &mut [u8], sector: &[u8]) -> Result<Accepted, Refusal>
+        ensures { lent (told_of self result) ring.new ≡ sector_lent self ring.old sector.now }
     {
-        let number = self.sector_number(ring, sector);
-        if number != 0 {
-            return self.refuse(number);
-        }
-        let controller = self.controller;
-        let place = self.place;
-        let expected = controller.expected;
-        let judgement = ring::store(ring, place.b, sector, expected);
-        let step = controller.counted(judgement);
-        conclude(place, step)
+        self.admission(ring, sector)?;
+        let Some(sector) = sector.as_array::<LENGTH>() else {
+            unreachable!();
+        };
+        let judgement = ring::store(ring, self.place.b, sector, self.controller.expected);
+        Ok(conclude(self.place, self.controller.counted(judgement)))
     }
 
     // Where the oldest block's window lies in the ring; no bytes where there is none.
     // Ruled out: one that gives block B's, and one that gives a part when TCC is 0.
+    #[tactic(auto, unfolding(crate::specs::Calls::look_part))]
     pub fn look_part(self, ring: &[u8]) -> Part
         ensures { result ≡ look_part self ring.now }
     {
-        let controller = self.controller;
-        let place = self.place;
-        let counts = controller.counts;
-        let window = controller.window;
-        if !(self.ready(ring) & !(counts.tcc == 0) & !(window.words == 0)) {
-            return Part { start: 0, size: 0 };
+        let Chip { controller, place } = self;
+        if !(self.ready(ring) & (controller.counts.tcc != 0) & (controller.window.words != 0)) {
+            return Part::default();
         }
         Part {
-            start: place.t as usize * 2560 + window.offset as usize,
-            size: 2 * window.words as usize,
+            start: place.t as usize * BLOCK + controller.window.offset as usize,
+            size: 2 * controller.window.words as usize,
         }
     }
 
@@ -67,40 +66,27 @@ impl Chip {
     pub fn look(self, ring: &[u8]) -> &[u8]
         ensures { result.now ≡ looked self ring.now }
     {
-        let part = self.look_part(ring);
-        let a = part.start;
-        let e = a + part.size;
-        &ring[a..e]
+        let Part { start, size } = self.look_part(ring);
+        &ring[start..start + size]
     }
 
     // Ruled out: one whose word is constant, and one that serves block B, or counts TCC and T only at the transfer's end.
-    pub fn host_word(mut self, ring: &[u8]) -> WordTold
-        ensures { result ≡ word_told self ring.now }
+    #[tactic(auto, unfolding(crate::specs::Calls::word_told), using(crate::proofs::Answers::word_barred))]
+    pub fn host_word(self, ring: &[u8]) -> Result<Accepted, Refusal>
+        ensures { word_told_of self result ≡ word_told self ring.now }
     {
-        if !self.ready(ring) {
-            return WordTold {
-                chip: self,
-                word: Word::Refused(1),
-            };
-        }
-        let controller = self.controller;
-        let place = self.place;
-        let transfer = controller.transfer;
-        let window = controller.window;
-        let step = controller.host_word();
-        let reply = step.reply;
-        let told = conclude(place, step);
-        let chip = told.chip;
-        if reply.number == 0 {
-            let word = ring::word_of(ring, place.t, window.offset, transfer.position);
-            return WordTold {
-                chip: chip,
-                word: Word::Handed(word),
-            };
-        }
-        WordTold {
-            chip: chip,
-            word: Word::Refused(reply.number),
-        }
+        refuse_if(!self.ready(ring), Refusal::Unfit)?;
+        let Chip { controller, place } = self;
+        let step = controller.host_word()?;
+        let value = ring::word_of(
+            ring,
+            place.t,
+            controller.window.offset,
+            controller.transfer.position,
+        );
+        Ok(Accepted {
+            value,
+            ..conclude(place, step)
+        })
     }
 }

@@ -12,23 +12,22 @@ use Rattle.laws.proofs.Tests.{clash, if_not}
 use Rattle.calls.specs.declared.Call.{Call as Plain}
 use Rattle.sector.specs.Judge.{good}
 use Rattle.sector.specs.declared.Judgement.{Judgement}
+use Rattle.controller.specs.Step.{Step}
 use Rattle.controller.specs.Calls.{stepped}
 use Rattle.controller.specs.Decoder.{counted}
 use Rattle.controller.specs.Fields.{◌▹◌, running≔}
 use Rattle.controller.specs.Host.{block_taken, host_word}
 use Rattle.controller.specs.Transfer.{concluded}
 use Rattle.controller.specs.declared.state.Controller.{Controller}
-use Rattle.controller.specs.declared.step.Step.{Step}
 use Rattle.ring.specs.Place.{ring_facts}
 use Rattle.outcomes.specs.Machine.{Call, plain, sector, look, word, number}
 use Rattle.outcomes.proofs.Starts.{split_settled}
 use Rattle.chip.specs.Calls.{called, sector_number, sector_told, word_told, received_by}
-use Rattle.chip.specs.Chip as chip
+use Rattle.chip.specs.Told as told
 use Rattle.chip.specs.Chip.{ring_fits, finished}
 use Rattle.chip.specs.Machine.{State, of_told, of_word, chip_answer, chip_step}
 use Rattle.chip.specs.Sound.{sound}
-use Rattle.chip.specs.declared.Told.{Told}
-use Rattle.chip.specs.declared.WordTold.{WordTold}
+use Rattle.chip.specs.Told.{Told, WordTold}
 use Rattle.claims.specs.Starts.{Last, Begins, Begun, ByteCountClaim}
 use Rattle.claims.proofs.Begun.{started_begun}
 use Rattle.claims.proofs.Kept.{ends, keeps, word_given}
@@ -77,7 +76,7 @@ unfolding called
 by_plain p s done idle =
     let c = s.chip.controller in
     if_case (λ (t : Told). t.reply.number ≡ 0 → runs t.chip.controller → Begun t.chip.controller) (sound s.chip)
-    (finished s.chip.place (concluded (stepped c p (ring_facts s.chip.place)))) (chip.refused s.chip 1)
+    (finished s.chip.place (concluded (stepped c p (ring_facts s.chip.place)))) (told.refused s.chip 1)
     (λ _ _. concluded_begun (stepped c p (ring_facts s.chip.place)) (λ r. fresh c idle ((keeps c p (ring_facts s.chip.place)).begins r)))
     (λ _ e. absurd (one_none e))
     done

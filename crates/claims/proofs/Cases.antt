@@ -20,7 +20,8 @@ use Rattle.controller.specs.Write.{write, write_buflim, write_tcc, write_skipc}
 use Rattle.controller.specs.declared.state.Controller.{Controller}
 use Rattle.outcomes.proofs.Starts.{settled_same}
 use Rattle.outcomes.proofs.Outcome.{settled_counts}
-use Rattle.chip.specs.Chip.{refused, opened}
+use Rattle.chip.specs.Chip.{opened}
+use Rattle.chip.specs.Told.{refused}
 use Rattle.chip.specs.Calls.{called, sector_number, sector_told}
 use Rattle.chip.specs.Sound.{sound}
 use Rattle.chip.specs.declared.Chip.{Chip}

@@ -13,17 +13,15 @@ use Rattle.laws.proofs.Choice.{if_case, if_true, if_false, both_true, left_true,
 use Rattle.laws.proofs.Tests.{clash}
 use Rattle.calls.specs.declared.Call.{Call as Plain}
 use Rattle.calls.specs.declared.Call.TheVariants.{Write, Read, SetBlock, SetWindow, SetExpected, PacketByte, Reset, Command, PacketWord, Status, Srst}
-use Rattle.reply.specs.Reply.{refusal, answer}
-use Rattle.reply.specs.declared.Reply.{Reply}
+use Rattle.reply.specs.Reply.{Reply, refusal, answer}
 use Rattle.sector.specs.Address.{valid}
-use Rattle.sector.specs.Calls.{whole, seal_reply, seal_sector, open_reply, open_sector, refused as unjudged, judge_answer, parity_reply}
+use Rattle.sector.specs.Calls.{whole, seal_reply, seal_sector, open_reply, open_sector, Judged, refused as unjudged, judge_answer, parity_reply}
 use Rattle.sector.specs.Judge.{good, judgement}
 use Rattle.sector.specs.declared.Address.{Address}
 use Rattle.sector.specs.declared.Subheader.{Subheader}
 use Rattle.sector.specs.Claims.{form_bit}
 use Rattle.sector.specs.Layout.{agrees, layout}
 use Rattle.sector.specs.Sector.{sealed}
-use Rattle.sector.specs.declared.Judged.{Judged}
 use Rattle.sector.specs.declared.Judgement.{Judgement}
 use Rattle.controller.specs.Bits.{bit, only, differs}
 use Rattle.controller.specs.Calls.{stepped}
@@ -32,28 +30,25 @@ use Rattle.controller.specs.Fields.{◌▹◌, tcc≔, bufc≔, decen≔}
 use Rattle.controller.specs.Host.{host_word, host_command, packet_word}
 use Rattle.controller.specs.Named.{set_block, set_window, set_expected, packet_byte}
 use Rattle.controller.specs.Read.{read}
-use Rattle.controller.specs.Step.{refused, replied, done, guarded}
+use Rattle.controller.specs.Step.{Step, refused, replied, done, guarded}
 use Rattle.controller.specs.Transfer.{engaged, start_switches, blocks_lacking, started, start, completed, signed, concluded}
 use Rattle.controller.specs.Write.{write_tack, decoder_off, write_ctrl0, write_mbtc0, write_astrg, write_asctrl, write_task, write_atsta, write_apksta, write_ascsta, write_bicctl, write_buflim, write_acctl, write_tcc, write_skipc, write_ttc, write}
 use Rattle.controller.specs.declared.state.Controller.{Controller}
 use Rattle.controller.specs.declared.step.RingFacts.{RingFacts}
 use Rattle.controller.specs.declared.step.Event.{Event}
 use Rattle.controller.specs.declared.step.Event.TheVariants.{Stay, Advance}
-use Rattle.controller.specs.declared.step.Step.{Step}
 use Rattle.ring.specs.Memory.{stored}
 use Rattle.ring.specs.Place.{full, ring_facts}
 use Rattle.outcomes.specs.Machine.{Call, plain, sector, look, word, seen, number}
 use Rattle.outcomes.proofs.Outcome.{concluded_refused}
 use Rattle.outcomes.proofs.Rows.{concluded_reply}
-use Rattle.chip.specs.Chip as chip
+use Rattle.chip.specs.Told as told
 use Rattle.chip.specs.Chip.{opened, ring_fits, finished}
 use Rattle.chip.specs.Calls.{called, sector_number, received_by, sector_told, sector_ring, next_word, word_by, word_told}
 use Rattle.chip.specs.Machine.{State, over, of_word, chip_answer, chip_step}
 use Rattle.chip.specs.Sound.{sound}
 use Rattle.chip.specs.declared.Chip.{Chip}
-use Rattle.chip.specs.declared.Told.{Told}
-use Rattle.chip.specs.declared.Word.TheVariants.{Handed, Refused}
-use Rattle.chip.specs.declared.WordTold.{WordTold}
+use Rattle.chip.specs.Told.{Told, Handed, Refused, WordTold}
 use Rattle.chip.proofs.Answers.{looked_is}
 use Rattle.claims.specs.Demand1.{Reasons, Applies, Lowest, ordered, one_of, read_registers, write_reasons, plain_reasons, reasons, Resultless, Refusal, judging_reasons, known_kind, other_form, sealing_reasons, Demand1}
 use Rattle.claims.proofs.Refines.{refined_sound, refines_opened}
@@ -369,7 +364,7 @@ module _ (c : Controller) where
 record Replies (c : Chip) (rs : Reasons) (t : Told) : Type 0 where
   lowest : Lowest rs t.reply.number
   most : t.reply.number ≤ 9
-  refusal : (t.reply.number ≡ 0 → ⊥) → t ≡ chip.refused c t.reply.number
+  refusal : (t.reply.number ≡ 0 → ⊥) → t ≡ told.refused c t.reply.number
 
 module _ (c : Chip) where
   -- a controller's step, concluded: no start follows a refusal
@@ -384,7 +379,7 @@ module _ (c : Chip) where
             let nonzero : k ≡ 0 → ⊥ = λ z. some (same ∙ z) in
             let is = a.refusal nonzero in
             let kept : concluded s ≡ refused c.controller k = ap concluded is ∙ concluded_refused c.controller k nonzero in
-            ap (finished c.place) kept ∙ ap (chip.refused c) (sym same);
+            ap (finished c.place) kept ∙ ap (told.refused c) (sym same);
       }
 
   called_replies : (call : Plain) → Replies c ((not (sound c), 1) ∷ plain_reasons c.controller call c.place.n) (called c call)
@@ -392,7 +387,7 @@ module _ (c : Chip) where
   called_replies call = by (sound c)
     where
       by : (b : Bool) → Replies c ((not b, 1) ∷ plain_reasons c.controller call c.place.n)
-          (if b then finished c.place (concluded (stepped c.controller call (ring_facts c.place))) else chip.refused c 1)
+          (if b then finished c.place (concluded (stepped c.controller call (ring_facts c.place))) else told.refused c 1)
       by true =
           let r = concludes _ _ (steps c.controller call (ring_facts c.place)) in
           record { lowest = lowest_miss (false, 1) _ _ refl r.lowest; most = r.most; refusal = r.refusal }
@@ -432,7 +427,7 @@ module _ (c : Chip) where
     sector_lends = by (sector_number c ring x) (eqb (sector_number c ring x) 0) refl sector_numbered
       where
         by : (k : ℕ) (e : Bool) → eqb k 0 ≡ e → Numbered sector_reasons k
-            → Lends (if e then finished c.place (concluded (counted c.controller (received_by c x).judgement)) else chip.refused c k)
+            → Lends (if e then finished c.place (concluded (counted c.controller (received_by c x).judgement)) else told.refused c k)
             (if e then stored ring c.place.b (received_by c x).bytes else ring)
         by k true e n =
             let z = counted_number (received_by c x).judgement in

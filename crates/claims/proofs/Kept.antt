@@ -13,6 +13,7 @@ use Rattle.calls.specs.declared.Call.{Call as Plain}
 use Rattle.calls.specs.declared.Call.TheVariants.{Write, Read, SetBlock, SetWindow, SetExpected, PacketByte, Reset, Command, PacketWord, Status, Srst}
 use Rattle.sector.specs.Address.{valid}
 use Rattle.sector.specs.declared.Address.{Address}
+use Rattle.controller.specs.Step.{Step}
 use Rattle.controller.specs.Bits.{bit, only, differs}
 use Rattle.controller.specs.Calls.{stepped}
 use Rattle.controller.specs.Fields.{◌▹◌, running≔, received≔, receiving≔, fpkt≔}
@@ -23,7 +24,6 @@ use Rattle.controller.specs.Transfer.{engaged, start, completed}
 use Rattle.controller.specs.Write.{write_tack, write_ctrl0, write_mbtc0, write_astrg, write_asctrl, write_task, write_atsta, write_apksta, write_ascsta, write_bicctl, write_buflim, write_acctl, write_tcc, write_skipc, write_ttc, write}
 use Rattle.controller.specs.declared.state.Controller.{Controller}
 use Rattle.controller.specs.declared.step.RingFacts.{RingFacts}
-use Rattle.controller.specs.declared.step.Step.{Step}
 use Rattle.outcomes.proofs.Starts.{split_start, started_same}
 use Rattle.claims.specs.Starts.{Begun}
 use Rattle.claims.proofs.Begun.{started_begun}

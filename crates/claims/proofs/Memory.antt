@@ -10,8 +10,7 @@ use Rattle.outcomes.specs.Row.{Row, Valid, row_step}
 use Rattle.chip.specs.Calls.{sector_told}
 use Rattle.chip.specs.Machine.{State, over, of_told, chip_answer, chip_step, the_chip}
 use Rattle.chip.specs.declared.Chip.{Chip}
-use Rattle.chip.specs.declared.Told.{Told}
-use Rattle.chip.specs.declared.WordTold.{WordTold}
+use Rattle.chip.specs.Told.{Told, WordTold}
 use Rattle.claims.specs.Letter.{MemoryFree}
 use Rattle.claims.specs.Refinement.{Refines}
 use Rattle.claims.proofs.Refines.{told_is, word_is, answer_look, answer_word, valid_own, represents_own, refined_step, refines_opened}

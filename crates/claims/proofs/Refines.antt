@@ -8,11 +8,13 @@ use native.Mathlib.Omega.{arith}
 use lib.Dec.{eqb, leb}
 use lib.ListN.{length, get_or}
 use borrow.Author.Tests.{le-leb, eqb-true, eq-eqb}
+use Rattle.reply.specs.Reply.{Reply}
 use Rattle.laws.specs.Bytes.{word_at}
 use Rattle.std.specs.Prelude.{if◌then◌else◌}
 use Rattle.laws.proofs.Choice.{if_case, if_true, both_true}
 use Rattle.calls.specs.declared.Call.{Call as Plain}
 use Rattle.calls.specs.declared.Call.TheVariants.{Write, Read, SetBlock, SetWindow, SetExpected, PacketByte, Reset, Command, PacketWord, Status, Srst}
+use Rattle.controller.specs.Step.{Step}
 use Rattle.controller.specs.Calls.{stepped}
 use Rattle.controller.specs.Host.{host_word}
 use Rattle.controller.specs.Read.{read}
@@ -21,8 +23,6 @@ use Rattle.controller.specs.Transfer.{settled, concluded}
 use Rattle.controller.specs.declared.state.Controller.{Controller}
 use Rattle.controller.specs.declared.step.Event.{Event}
 use Rattle.controller.specs.declared.step.RingFacts.{RingFacts}
-use Rattle.controller.specs.declared.step.Step.{Step}
-use Rattle.reply.specs.declared.Reply.{Reply}
 use Rattle.ring.specs.Memory.{stored}
 use Rattle.ring.specs.Place as ring
 use Rattle.ring.specs.Place.{place_step, ring_facts}
@@ -36,15 +36,14 @@ use Rattle.outcomes.specs.Row.{Row, Valid, plain_step, word_step, sector_number,
 use Rattle.outcomes.proofs.Calls.{word_running}
 use Rattle.outcomes.proofs.Rows.{concluded_reply, kept, plain_ended, word_ended, taken, sector_stored, valid_opened}
 use Rattle.chip.specs.Chip as chip
+use Rattle.chip.specs.Told as told
 use Rattle.chip.specs.Chip.{ring_fits, finished}
 use Rattle.chip.specs.Calls as calls
 use Rattle.chip.specs.Calls.{called, received_by, sector_told, sector_ring, next_word, word_by, word_told}
 use Rattle.chip.specs.Machine.{State, over, of_told, of_word, chip_answer, chip_step, the_chip}
 use Rattle.chip.specs.Sound.{sound}
 use Rattle.chip.specs.declared.Chip.{Chip}
-use Rattle.chip.specs.declared.Told.{Told}
-use Rattle.chip.specs.declared.Word.TheVariants.{Handed, Refused}
-use Rattle.chip.specs.declared.WordTold.{WordTold}
+use Rattle.chip.specs.Told.{Told, Handed, Refused, WordTold}
 use Rattle.chip.proofs.Answers.{looked_is}
 use Rattle.chip.proofs.Sounds.{facts_sound}
 use Rattle.claims.specs.Demand3.{masked}
@@ -209,9 +208,9 @@ module _ (c : Controller) (p : Place) (x : List ℕ) (w : List (List ℕ))
     unfolding calls.sector_number
     same_number s = rw (chip_sound, chip_fits, represents_full rep) refl
 
-    pub told_is : (s : List ℕ) → sector_told K x s ≡ (if eqb (sector_number s R) 0 then finished p (sector_step s R) else chip.refused K (sector_number s R))
+    pub told_is : (s : List ℕ) → sector_told K x s ≡ (if eqb (sector_number s R) 0 then finished p (sector_step s R) else told.refused K (sector_number s R))
     unfolding sector_told
-    told_is s = ap (λ (k : ℕ). if eqb k 0 then finished p (sector_step s R) else chip.refused K k) (same_number s)
+    told_is s = ap (λ (k : ℕ). if eqb k 0 then finished p (sector_step s R) else told.refused K k) (same_number s)
 
     ring_is : (s : List ℕ) → sector_ring K x s ≡ (if eqb (sector_number s R) 0 then stored x p.b (received_by K s).bytes else x)
     unfolding sector_ring
@@ -222,7 +221,7 @@ module _ (c : Controller) (p : Place) (x : List ℕ) (w : List (List ℕ))
     answer_sector s = ap of_told (told_is s) ∙ by (eqb (sector_number s R) 0)
       where
         by : (e : Bool)
-            → of_told (if e then finished p (sector_step s R) else chip.refused K (sector_number s R))
+            → of_told (if e then finished p (sector_step s R) else told.refused K (sector_number s R))
             ≡ (if e then answered (sector_step s R) else replied (sector_number s R) 0)
         by true = refl
         by false = refl
@@ -236,7 +235,7 @@ module _ (c : Controller) (p : Place) (x : List ℕ) (w : List (List ℕ))
         by : (e : Bool) → eqb (sector_number s R) 0 ≡ e
             → Valid (if e then record { controller = (sector_step s R).controller; blocks = p.n; row = grown c s w } else R)
             → Refines
-            (over (if e then finished p (sector_step s R) else chip.refused K (sector_number s R)).chip (if e then stored x p.b (received_by K s).bytes else x))
+            (over (if e then finished p (sector_step s R) else told.refused K (sector_number s R)).chip (if e then stored x p.b (received_by K s).bytes else x))
             (if e then record { controller = (sector_step s R).controller; blocks = p.n; row = grown c s w } else R)
         by true e v =
             let t = taken s R (eqb-true _ _ e) in

@@ -17,7 +17,7 @@ use Rattle.chip.specs.Calls.{called}
 use Rattle.chip.specs.Machine.{State, over, of_told, chip_answer, chip_step, the_chip}
 use Rattle.chip.specs.Sound.{sound}
 use Rattle.chip.specs.declared.Chip.{Chip}
-use Rattle.chip.specs.declared.Told.{Told}
+use Rattle.chip.specs.Told.{Told}
 use Rattle.claims.specs.Refinement.{Refines}
 use Rattle.claims.specs.Renewed.{Renewed}
 use Rattle.claims.proofs.Memory.{memory_free}

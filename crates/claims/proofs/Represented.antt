@@ -15,10 +15,10 @@ use Rattle.laws.proofs.Tests.{weightless}
 use Rattle.sector.specs.Judge.{good}
 use Rattle.sector.specs.Receive.{received}
 use Rattle.sector.proofs.Received.{length_received}
+use Rattle.controller.specs.Step.{Step}
 use Rattle.controller.specs.declared.state.Controller.{Controller}
 use Rattle.controller.specs.declared.step.Event.{Event}
 use Rattle.controller.specs.declared.step.Event.TheVariants.{Stay, Store, Advance, Rewind, Move, Clear}
-use Rattle.controller.specs.declared.step.Step.{Step}
 use Rattle.ring.specs.Memory.{base, stored}
 use Rattle.ring.specs.Place.{place_step}
 use Rattle.ring.specs.Represents.{Represents}

@@ -8,6 +8,7 @@ use native.Mathlib.Omega.{arith}
 use lib.Dec.{eqb, leb, ltb}
 use lib.ListN.{length}
 use borrow.Author.Tests.{leb-false, ltb-false, le-ltb, lt-leb, eqb-true, eqb-false, ne_eqb}
+use Rattle.reply.specs.Reply.{Reply}
 use Rattle.std.specs.Prelude.{if◌then◌else◌}
 use Rattle.calls.specs.declared.Call.{Call as Plain}
 use Rattle.calls.specs.declared.Call.TheVariants.{Write, Read, SetBlock, SetWindow, SetExpected, PacketByte, Reset, Command, PacketWord, Status, Srst}
@@ -15,13 +16,11 @@ use Rattle.controller.specs.Calls.{stepped}
 use Rattle.controller.specs.Decoder.{admission}
 use Rattle.controller.specs.Named.{set_block}
 use Rattle.controller.specs.Read.{read}
-use Rattle.controller.specs.Step.{refused}
+use Rattle.controller.specs.Step.{Step, refused}
 use Rattle.controller.specs.Transfer.{concluded}
 use Rattle.controller.specs.Write.{write_buflim, write}
 use Rattle.controller.specs.declared.state.Controller.{Controller}
 use Rattle.controller.specs.declared.step.RingFacts.{RingFacts}
-use Rattle.controller.specs.declared.step.Step.{Step}
-use Rattle.reply.specs.declared.Reply.{Reply}
 use Rattle.outcomes.specs.Book.{facts_of, limited}
 use Rattle.outcomes.specs.Invariant.{moved}
 use Rattle.outcomes.specs.Machine.{Call, plain, sector, look, word, replied, number}

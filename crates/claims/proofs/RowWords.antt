@@ -6,9 +6,9 @@ use native.Mathlib.Omega.{arith}
 use lib.Dec.{eqb}
 use lib.ListN.{length}
 use borrow.Author.Tests.{eqb-true, eqb-false}
+use Rattle.reply.specs.Reply.{Reply}
 use Rattle.laws.proofs.Choice.{if_case}
 use Rattle.controller.specs.Host.{host_word}
-use Rattle.reply.specs.declared.Reply.{Reply}
 use Rattle.outcomes.specs.Book.{Book, feed}
 use Rattle.outcomes.specs.Machine.{Call, plain, sector, look, word, Answer, number}
 use Rattle.outcomes.specs.Row.{Row, Valid, shown, word_step, sector_number, row_answer, row_step, the_row}

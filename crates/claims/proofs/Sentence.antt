@@ -10,12 +10,12 @@ use native.Mathlib.Omega.{arith}
 use lib.Dec.{eqb}
 use lib.ListN.{length, take, drop, get_or}
 use borrow.Author.Tests.{eqb-true, eqb-false}
+use Rattle.reply.specs.Reply.{Reply}
 use Rattle.laws.specs.Bytes.{word_at}
 use Rattle.std.specs.Prelude.{if◌then◌else◌}
 use Rattle.laws.proofs.Choice.{if_case, right_false, not_of_false}
 use Rattle.laws.proofs.Tests.{or_false}
 use Rattle.calls.specs.declared.Call.TheVariants.{Write, Read, SetBlock, SetWindow, SetExpected, PacketByte, Reset, Command, PacketWord, Status, Srst}
-use Rattle.reply.specs.declared.Reply.{Reply}
 use Rattle.sector.specs.Judge.{sync_holds, mode_holds, edc_holds, address_holds, judgement, good}
 use Rattle.sector.specs.Receive.{received}
 use Rattle.sector.proofs.Changes.{mode_cases}

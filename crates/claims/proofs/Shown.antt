@@ -6,16 +6,17 @@ use mathlib.Core.List.{List, [], ◌∷◌}
 use lib.Dec.{eqb}
 use lib.ListN.{length, take, drop, get_or}
 use borrow.Author.Tests.{eqb-true, eqb-false}
+use Rattle.reply.specs.Reply.{Reply}
 use Rattle.std.specs.Prelude.{if◌then◌else◌}
 use Rattle.laws.specs.Numbers.{weight}
 use Rattle.laws.proofs.Choice.{if_case, if_true, if_false, left_true, right_true}
 use Rattle.calls.specs.declared.Call.{Call as Plain}
 use Rattle.calls.specs.declared.Call.TheVariants.{Write, Read, SetBlock, SetWindow, SetExpected, PacketByte, Reset, Command, PacketWord, Status, Srst}
-use Rattle.reply.specs.declared.Reply.{Reply}
 use Rattle.sector.specs.Judge.{good, tarsta_byte}
 use Rattle.sector.specs.Receive.{received}
 use Rattle.sector.specs.declared.Judgement.{Judgement}
 use Rattle.sector.proofs.Claims.{facts_hold}
+use Rattle.controller.specs.Step.{Step}
 use Rattle.controller.specs.Calls.{stepped}
 use Rattle.controller.specs.Decoder.{counted}
 use Rattle.controller.specs.Host.{host_word}
@@ -25,7 +26,6 @@ use Rattle.controller.specs.Write.{write_ctrl0, write}
 use Rattle.controller.specs.declared.state.Controller.{Controller}
 use Rattle.controller.specs.declared.state.Counts.{Counts}
 use Rattle.controller.specs.declared.step.RingFacts.{RingFacts}
-use Rattle.controller.specs.declared.step.Step.{Step}
 use Rattle.outcomes.specs.Book.{Book, feed}
 use Rattle.outcomes.specs.Machine.{Call, plain, sector, look, word, Answer, replied, seen, number, Machine}
 use Rattle.outcomes.specs.Row.{Row, Valid, shown, row_facts, word_step, sector_number, sector_step, grown, answered, word_answered, row_answer, row_step, the_row}

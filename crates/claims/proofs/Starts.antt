@@ -9,20 +9,20 @@ use Rattle.std.specs.Prelude.{if◌then◌else◌}
 use Rattle.laws.proofs.Choice.{if_true, if_false, left_false, right_false}
 use Rattle.calls.specs.declared.Call.{Call as Plain}
 use Rattle.calls.specs.declared.Call.TheVariants.{Write}
+use Rattle.controller.specs.Step.{Step}
 use Rattle.controller.specs.Calls.{stepped}
 use Rattle.controller.specs.Fields.{◌▹◌, ttc≔}
 use Rattle.controller.specs.Step as step
 use Rattle.controller.specs.Transfer.{engaged, start_switches, most_blocks, start_blocks, blocks_lacking, byte_count, started, start, settled, concluded}
 use Rattle.controller.specs.Write.{write, write_astrg, write_ttc}
 use Rattle.controller.specs.declared.state.Controller.{Controller}
-use Rattle.controller.specs.declared.step.Step.{Step}
 use Rattle.outcomes.specs.Machine.{plain}
-use Rattle.chip.specs.Chip.{refused, finished}
+use Rattle.chip.specs.Chip.{finished}
+use Rattle.chip.specs.Told.{refused, Told}
 use Rattle.chip.specs.Sound.{sound}
 use Rattle.chip.specs.Calls.{called}
 use Rattle.chip.specs.Machine.{over, chip_answer, chip_step}
 use Rattle.chip.specs.declared.Chip.{Chip}
-use Rattle.chip.specs.declared.Told.{Told}
 use Rattle.claims.specs.Cases.{afterwards, Asked, GivenStart, Leaves, Starts, with_ttc}
 use Rattle.claims.specs.Starts.{Begins, with_mbc, Unready, Unbarred, StartsTable}
 

@@ -10,12 +10,12 @@ use Rattle.controller.specs.Decoder.{at_stop}
 use Rattle.controller.specs.declared.state.Controller.{Controller}
 use Rattle.ring.specs.Place.{full}
 use Rattle.outcomes.specs.Machine.{Call, after}
-use Rattle.chip.specs.Chip.{opened, refused}
+use Rattle.chip.specs.Chip.{opened}
+use Rattle.chip.specs.Told.{refused, Told}
 use Rattle.chip.specs.Sound.{sound}
 use Rattle.chip.specs.Calls.{called, sector_told}
 use Rattle.chip.specs.Machine.{State, over, the_chip}
 use Rattle.chip.specs.declared.Chip.{Chip}
-use Rattle.chip.specs.declared.Told.{Told}
 
 abbrev pub number : Told → ℕ
 number r = r.reply.number

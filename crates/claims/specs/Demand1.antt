@@ -15,10 +15,9 @@ use Rattle.sector.specs.declared.Subheader.{Subheader}
 use Rattle.controller.specs.Bits.{bit, only, differs}
 use Rattle.controller.specs.Decoder.{at_stop}
 use Rattle.controller.specs.Named.{window_fits}
-use Rattle.controller.specs.Step.{guarded}
+use Rattle.controller.specs.Step.{Step, guarded}
 use Rattle.controller.specs.Transfer.{engaged, start_switches, blocks_lacking}
 use Rattle.controller.specs.declared.state.Controller.{Controller}
-use Rattle.controller.specs.declared.step.Step.{Step}
 use Rattle.ring.specs.Place.{full}
 use Rattle.outcomes.specs.Machine.{Call, plain, sector, look, word, Answer, replied, handed, refused, seen, number}
 use Rattle.chip.specs.Chip.{opened, ring_fits}

@@ -13,12 +13,12 @@ use Rattle.controller.specs.declared.state.Controller.{Controller}
 use Rattle.ring.specs.Place.{at}
 use Rattle.ring.specs.declared.Place.{Place}
 use Rattle.outcomes.specs.Machine.{Call, plain, sector, look, word, Answer, replied, handed, seen}
-use Rattle.chip.specs.Chip.{opened, refused}
+use Rattle.chip.specs.Chip.{opened}
+use Rattle.chip.specs.Told.{refused, Refused}
 use Rattle.chip.specs.Sound.{sound}
 use Rattle.chip.specs.Calls.{called, lent, sector_lent, looked, word_told}
 use Rattle.chip.specs.Machine.{the_chip}
 use Rattle.chip.specs.declared.Chip.{Chip}
-use Rattle.chip.specs.declared.Word.TheVariants.{Refused}
 use Rattle.claims.specs.Cases.{number, address, Reachable}
 use Rattle.claims.specs.Runs.{encoded, read, set_window, srst, disc, set_up, restart, transfer, ok, Gives, telling_why}
 

@@ -6,7 +6,7 @@ use Rattle.calls.specs.declared.Call.TheVariants.{Write}
 use Rattle.controller.specs.Transfer.{most_blocks, start_blocks, blocks_lacking}
 use Rattle.controller.specs.declared.state.Controller.{Controller}
 use Rattle.outcomes.specs.Machine.{Call, plain, sector, look, word, number as number_of}
-use Rattle.chip.specs.Chip.{refused}
+use Rattle.chip.specs.Told.{refused}
 use Rattle.chip.specs.Sound.{sound}
 use Rattle.chip.specs.Calls.{called}
 use Rattle.chip.specs.Machine.{State, chip_answer, chip_step}

@@ -1,2 +1,3 @@
 -- What is known of a start; every other proof stands with its function.
+pub mod Bits
 pub mod Starts

@@ -1,13 +1,13 @@
 -- One dispatch for the calls that touch no memory: each is one definition's. Assumes nothing.
 use Rattle.calls.specs.declared.Call.{Call}
 use Rattle.calls.specs.declared.Call.TheVariants.{Write, Read, SetBlock, SetWindow, SetExpected, PacketByte, Reset, Command, PacketWord, Status, Srst}
+use Rattle.controller.specs.Step.{Step}
 use Rattle.controller.specs.Host.{host_command, packet_word, host_status, host_srst}
 use Rattle.controller.specs.Named.{set_block, set_window, set_expected, packet_byte, reset}
 use Rattle.controller.specs.Read.{read}
 use Rattle.controller.specs.Write.{write}
 use Rattle.controller.specs.declared.state.Controller.{Controller}
 use Rattle.controller.specs.declared.step.RingFacts.{RingFacts}
-use Rattle.controller.specs.declared.step.Step.{Step}
 
 -- the ring tells N, T and the last decoded block
 unfoldable pub stepped : Controller → Call → RingFacts → Step

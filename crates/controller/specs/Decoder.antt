@@ -4,9 +4,8 @@ use Rattle.sector.specs.Address.{next}
 use Rattle.sector.specs.Judge.{good, tarsta_byte}
 use Rattle.sector.specs.declared.Judgement.{Judgement}
 use Rattle.controller.specs.Fields.{◌▹◌, tcc≔, bufc≔, held≔, expected≔, judgement≔}
-use Rattle.controller.specs.Step.{replied}
+use Rattle.controller.specs.Step.{Step, replied}
 use Rattle.controller.specs.declared.state.Controller.{Controller}
-use Rattle.controller.specs.declared.step.Step.{Step}
 use Rattle.controller.specs.declared.step.Event.TheVariants.{Store}
 
 -- the stop: BLIMS low, when the ring is full, (B+1) mod N = T; BLIMS high, when BUFC has reached BUFLIM or is above it (H: no overshoot)

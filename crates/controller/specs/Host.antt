@@ -2,10 +2,9 @@
 use Rattle.std.specs.Prelude.{ℕ, ◌+◌, ◌-◌, ◌*◌, ◌/◌, ◌%◌, true, false, ◌&&◌, ◌||◌, not, [], ◌∷◌, ltb, eqb, replicate, set, if◌then◌else◌}
 use Rattle.controller.specs.Fields.{◌▹◌, tcc≔, bufc≔, ttc≔, apkten≔, bsy≔, drdy≔, dsc≔, drq≔, corr≔, check≔, aterr≔, atint≔, atcmd≔, running≔, left≔, position≔, apkt≔, fpkt≔, receiving≔, received≔, bytes≔, hirq≔}
 use Rattle.controller.specs.Read.{atsta_byte}
-use Rattle.controller.specs.Step.{replied, done, guarded}
+use Rattle.controller.specs.Step.{Step, replied, done, guarded}
 use Rattle.controller.specs.Transfer.{engaged, completed, signed}
 use Rattle.controller.specs.declared.state.Controller.{Controller}
-use Rattle.controller.specs.declared.step.Step.{Step}
 use Rattle.controller.specs.declared.step.Event.TheVariants.{Stay, Advance}
 
 -- end steps: with ADCEN DRQ=0, BSY=1; with ASCEN completion

@@ -4,9 +4,8 @@ use Rattle.sector.specs.Address.{valid}
 use Rattle.sector.specs.declared.Address.{Address}
 use Rattle.controller.specs.Fields.{◌▹◌, window≔, expected≔}
 use Rattle.controller.specs.State.{initial}
-use Rattle.controller.specs.Step.{replied, done, guarded}
+use Rattle.controller.specs.Step.{Step, replied, done, guarded}
 use Rattle.controller.specs.declared.state.Controller.{Controller}
-use Rattle.controller.specs.declared.step.Step.{Step}
 use Rattle.controller.specs.declared.step.Event.TheVariants.{Stay, Move, Clear}
 
 -- set T, below N; barred in a transfer; needs DECEN low and TCC 0; B follows

@@ -2,10 +2,9 @@
 use Rattle.std.specs.Prelude.{ℕ, ◌+◌, eqb, if◌then◌else◌}
 use Rattle.laws.specs.Numbers.{weight}
 use Rattle.sector.specs.Judge.{tarsta_byte}
-use Rattle.controller.specs.Step.{refused, replied}
+use Rattle.controller.specs.Step.{Step, refused, replied}
 use Rattle.controller.specs.declared.state.Controller.{Controller}
 use Rattle.controller.specs.declared.step.RingFacts.{RingFacts}
-use Rattle.controller.specs.declared.step.Step.{Step}
 use Rattle.controller.specs.declared.step.Event.TheVariants.{Stay}
 
 -- ASCTRL (18h): bits 7 APKTEN, 6 ADCEN, 5 ASCEN, 4 AUTOEN, 3 STWCEN, 0 A0IEN

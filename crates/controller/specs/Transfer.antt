@@ -1,9 +1,8 @@
 -- Transfers (paper 01, "Host and transfers"; paper 02, ask 3; 001, ASTRG (17h), ACCTL (9Ch), TTC (9Fh); SFF-8020 for the interrupt reasons). Assumes nothing.
 use Rattle.std.specs.Prelude.{ℕ, ◌+◌, ◌-◌, ◌*◌, ◌/◌, ◌%◌, min, Bool, true, false, ◌&&◌, ◌||◌, not, [], ◌∷◌, ltb, eqb, if◌then◌else◌}
 use Rattle.controller.specs.Fields.{◌▹◌, mbc≔, atint≔, atblo≔, atbhi≔, bsy≔, drdy≔, drq≔, corr≔, check≔, hirq≔, running≔, left≔, position≔, apkten≔, ascen≔}
-use Rattle.controller.specs.Step.{done, guarded}
+use Rattle.controller.specs.Step.{Step, done, guarded}
 use Rattle.controller.specs.declared.state.Controller.{Controller}
-use Rattle.controller.specs.declared.step.Step.{Step}
 
 -- a transfer runs, or a packet is being received: what bars 17h, 18h, 37h and a second start
 abbrev pub engaged : Controller → Bool

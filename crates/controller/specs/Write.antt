@@ -2,12 +2,12 @@
 use Rattle.std.specs.Prelude.{ℕ, ◌+◌, ◌-◌, ◌%◌, true, false, ◌&&◌, ◌||◌, not, [], ◌∷◌, ltb, eqb, if◌then◌else◌}
 use Rattle.controller.specs.Bits.{bit, only, differs}
 use Rattle.controller.specs.Fields.{◌▹◌, tcc≔, bufc≔, ttc≔, held≔, decen≔, blimen≔, blims≔, buflim≔, acctl≔, asctrl≔, drdy≔, dsc≔, drq≔, corr≔, check≔, ascsta≔, adsc≔, task≔, mbc≔, apkt≔}
-use Rattle.controller.specs.Step.{refused, replied, done, guarded}
+use Rattle.controller.specs.Step.{Step, refused, replied, done, guarded}
 use Rattle.controller.specs.Transfer.{engaged, start, completed, signed}
 use Rattle.controller.specs.declared.state.Acctl.{Acctl}
+use Rattle.controller.specs.declared.state.Asctrl.{Asctrl}
 use Rattle.controller.specs.declared.state.Controller.{Controller}
 use Rattle.controller.specs.declared.state.Task.{Task}
-use Rattle.controller.specs.declared.step.Step.{Step}
 use Rattle.controller.specs.declared.step.Event.TheVariants.{Advance, Rewind}
 
 -- TACK (07h), any value: clears APKT
@@ -43,10 +43,13 @@ write_astrg c v =
     else done (signed c))
 
 -- ASCTRL (18h): bits 7 APKTEN, 6 ADCEN, 5 ASCEN (needs bit 6), 4 AUTOEN, 3 STWCEN, 0 A0IEN; barred as 17h
+abbrev pub asctrl_of : ℕ → Asctrl
+asctrl_of v = record { apkten = bit v 7; adcen = bit v 6; ascen = bit v 5; autoen = bit v 4; stwcen = bit v 3; a0ien = bit v 0 }
+
 unfoldable pub write_asctrl : Controller → ℕ → Step
 write_asctrl c v =
     guarded c ((not (only (7 ∷ 6 ∷ 5 ∷ 4 ∷ 3 ∷ 0 ∷ []) v && (bit v 6 || not (bit v 5))), 3) ∷ (engaged c, 4) ∷ [])
-    (done (c ▹ asctrl≔ (record { apkten = bit v 7; adcen = bit v 6; ascen = bit v 5; autoen = bit v 4; stwcen = bit v 3; a0ien = bit v 0 })))
+    (done (c ▹ asctrl≔ (asctrl_of v)))
 
 -- ATERR (31h), ATINT (32h), ATBLO (34h), ATBHI (35h): any value
 abbrev pub with_task : Task → ℕ → ℕ → Task

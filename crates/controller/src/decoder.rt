@@ -1,9 +1,12 @@
 // A sector from the disc: admitted before a byte of it is moved, counted once it is stored and judged.
 ghost use Rattle.std.specs.Prelude.{◌≡◌, ◌<◌};
+ghost use Rattle.reply.specs.Reply.{number_of};
 ghost use Rattle.controller.specs.Decoder.{at_stop, admission, counted};
+ghost use Rattle.controller.specs.Step.{accepted};
 
 use crate::state::Controller;
-use crate::step::{Event, Step, replied};
+use crate::step::{Accepted, Event};
+use reply::{Refusal, refuse_if};
 use sector::Judgement;
 
 impl Controller {
@@ -11,44 +14,39 @@ impl Controller {
         ensures { result ≡ at_stop self full }
     {
         if self.buffering.blims {
-            return self.buffering.buflim <= self.counts.bufc;
+            self.buffering.buflim <= self.counts.bufc
+        } else {
+            full
         }
-        full
     }
 
     // full: the ring's own test that B stands right before T.
-    pub fn admission(self, full: bool) -> u8
-        ensures { result ≡ admission self full }
+    #[tactic(auto, unfolding(crate::specs::Decoder::admission))]
+    pub fn admission(self, full: bool) -> Result<(), Refusal>
+        ensures { number_of result ≡ admission self full }
     {
-        if !self.buffering.decen {
-            return 7;
-        }
-        if self.counts.held {
-            return 8;
-        }
-        if self.at_stop(full) {
-            return 9;
-        }
-        0
+        refuse_if(!self.buffering.decen, Refusal::DecoderOff)?;
+        refuse_if(self.counts.held, Refusal::AfterBad)?;
+        refuse_if(self.at_stop(full), Refusal::AtStop)
     }
 
-    pub fn counted(mut self, judgement: Judgement) -> Step
+    #[tactic(auto, unfolding(crate::specs::Decoder::counted))]
+    pub fn counted(mut self, judgement: Judgement) -> Accepted
         requires { (self.counts.tcc < 255) × (self.counts.bufc < 255) }
-        ensures { result ≡ counted self judgement }
+        ensures { accepted result ≡ counted self judgement }
     {
-        let shown = judgement.tarsta();
-        let bufc = self.counts.bufc + 1;
-        self.counts.bufc = bufc;
+        self.counts.bufc += 1;
         self.judgement = judgement;
         if judgement.good() {
-            let tcc = self.counts.tcc + 1;
-            let expected = self.expected;
-            let next = expected.next();
-            self.counts.tcc = tcc;
-            self.expected = next;
-            return replied(self, Event::Store, shown);
+            self.counts.tcc += 1;
+            self.expected = self.expected.next();
+        } else {
+            self.counts.held = true;
         }
-        self.counts.held = true;
-        replied(self, Event::Store, shown)
+        Accepted {
+            controller: self,
+            event: Event::Store,
+            value: judgement.tarsta(),
+        }
     }
 }

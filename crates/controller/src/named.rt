@@ -1,82 +1,73 @@
 // Named calls: set T, window, expected address, packet byte, chip reset.
 ghost use Rattle.std.specs.Prelude.{◌≡◌};
-ghost use Rattle.controller.specs.Named.{set_block, window_fits, set_window, set_expected, packet_byte, reset};
+ghost use Rattle.controller.specs.declared.step.Event.TheVariants.{Clear};
+ghost use Rattle.controller.specs.Named.{set_block, window_fits, set_window, set_expected, packet_byte};
+ghost use Rattle.controller.specs.State.{initial};
+ghost use Rattle.controller.specs.Step.{accepted, replied, step_of};
 
 use crate::state::{Controller, Window};
-use crate::step::{Event, Step, done, refuse, replied};
-use numbers::wide;
+use crate::step::{Accepted, Event};
+use reply::{Refusal, refuse_if};
 use sector::Address;
 
-pub fn window_fits(offset: u16, words: u16) -> bool
-    ensures { result ≡ window_fits offset words }
-{
-    (0 < words) & (words <= 1176) & (offset as u32 + 2 * words as u32 <= 2352)
+impl Window {
+    // Ruled out: one that takes 0 words, and one that takes an end above 2,352.
+    pub fn fits(self) -> bool
+        ensures { result ≡ window_fits self.offset self.words }
+    {
+        let Window { offset, words } = self;
+        (0 < words) & (words <= 1176) & (offset as u32 + 2 * words as u32 <= 2352)
+    }
 }
 
 impl Controller {
     // n is the number of blocks.
-    pub fn set_block(self, block: u16, n: u16) -> Step
-        ensures { result ≡ set_block self block n }
+    #[tactic(auto, unfolding(crate::specs::Named::set_block))]
+    pub fn set_block(self, block: u16, n: u16) -> Result<Accepted, Refusal>
+        ensures { step_of self result ≡ set_block self block n }
     {
-        if n <= block {
-            return refuse(self, 3);
-        }
-        if self.transfer.running {
-            return refuse(self, 4);
-        }
-        if self.buffering.decen | !(self.counts.tcc == 0) {
-            return refuse(self, 5);
-        }
-        replied(self, Event::Move(block), 0)
+        refuse_if(n <= block, Refusal::OutOfRange)?;
+        refuse_if(self.transfer.running, Refusal::Barred)?;
+        refuse_if(
+            self.buffering.decen | (self.counts.tcc != 0),
+            Refusal::Unready,
+        )?;
+        Ok(self.moves(Event::Move(block)))
     }
 
-    pub fn set_window(mut self, offset: u16, words: u16) -> Step
-        ensures { result ≡ set_window self offset words }
+    #[tactic(auto, unfolding(crate::specs::Named::set_window))]
+    pub fn set_window(mut self, offset: u16, words: u16) -> Result<Accepted, Refusal>
+        ensures { step_of self result ≡ set_window self offset words }
     {
-        if !window_fits(offset, words) {
-            return refuse(self, 3);
-        }
-        if self.transfer.running {
-            return refuse(self, 4);
-        }
-        let window = Window {
-            offset: offset,
-            words: words,
-        };
+        let window = Window { offset, words };
+        refuse_if(!window.fits(), Refusal::OutOfRange)?;
+        refuse_if(self.transfer.running, Refusal::Barred)?;
         self.window = window;
-        done(self)
+        Ok(self.done())
     }
 
-    pub fn set_expected(mut self, address: Address) -> Step
-        ensures { result ≡ set_expected self address }
+    #[tactic(auto, unfolding(crate::specs::Named::set_expected))]
+    pub fn set_expected(mut self, address: Address) -> Result<Accepted, Refusal>
+        ensures { step_of self result ≡ set_expected self address }
     {
-        if !address.valid() {
-            return refuse(self, 3);
-        }
-        if self.buffering.decen {
-            return refuse(self, 5);
-        }
+        refuse_if(!address.valid(), Refusal::OutOfRange)?;
+        refuse_if(self.buffering.decen, Refusal::Unready)?;
         self.expected = address;
-        done(self)
+        Ok(self.done())
     }
 
-    pub fn packet_byte(self, index: u16) -> Step
-        ensures { result ≡ packet_byte self index }
+    #[tactic(auto, unfolding(crate::specs::Named::packet_byte))]
+    pub fn packet_byte(self, index: u16) -> Result<Accepted, Refusal>
+        ensures { step_of self result ≡ packet_byte self index }
     {
-        if index > 11 {
-            return refuse(self, 3);
-        }
-        if !self.packet.fpkt {
-            return refuse(self, 6);
-        }
-        let packet = self.packet;
-        let bytes = packet.bytes;
-        replied(self, Event::Stay, wide(bytes[index as usize]))
+        refuse_if(index > 11, Refusal::OutOfRange)?;
+        refuse_if(!self.packet.fpkt, Refusal::TooFew)?;
+        Ok(self.shows(self.packet.bytes[index as usize] as u16))
     }
 
-    pub fn reset(self) -> Step
-        ensures { result ≡ reset self }
+    pub fn reset() -> Accepted
+        ensures { accepted result ≡ replied initial Clear 0 }
     {
-        replied(Controller::initial(), Event::Clear, 0)
+        Controller::initial().moves(Event::Clear)
     }
 }

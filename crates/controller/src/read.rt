@@ -1,10 +1,12 @@
 // Reading registers. 24h and 3Ah are the ring's, which tells them.
 ghost use Rattle.std.specs.Prelude.{◌≡◌};
-ghost use Rattle.controller.specs.Read.{asctrl_byte, miss2_byte, atsta_byte, bicctl_byte, acctl_byte, value, read};
+ghost use Rattle.controller.specs.Read.{asctrl_byte, miss2_byte, atsta_byte, bicctl_byte, acctl_byte, read};
+ghost use Rattle.controller.specs.Step.{step_of};
 
 use crate::state::Controller;
-use crate::step::{Event, RingFacts, Step, refuse, replied};
-use numbers::{weight, wide};
+use crate::step::{Accepted, RingFacts};
+use numbers::weight;
+use reply::Refusal;
 
 impl Controller {
     fn asctrl_byte(self) -> u16
@@ -47,35 +49,35 @@ impl Controller {
         weight(self.acctl.atten, 0x80)
             + weight(self.acctl.acmen, 0x40)
             + weight(self.acctl.tcincen, 0x20)
-            + wide(self.acctl.atlim)
+            + self.acctl.atlim as u16
     }
 
     #[tactic(auto, unfolding(crate::specs::Read::read))]
-    pub fn read(self, reg: u16, ring: RingFacts) -> Step
-        ensures { result ≡ read self reg ring }
+    pub fn read(self, reg: u16, ring: RingFacts) -> Result<Accepted, Refusal>
+        ensures { step_of self result ≡ read self reg ring }
     {
-        let judgement = self.judgement;
-        match reg {
-            0x12 => replied(self, Event::Stay, wide(self.mbc)),
-            0x18 => replied(self, Event::Stay, self.asctrl_byte()),
-            0x24 => replied(self, Event::Stay, ring.t),
-            0x25 => replied(self, Event::Stay, 0),
-            0x30 => replied(self, Event::Stay, self.miss2_byte()),
-            0x31 => replied(self, Event::Stay, wide(self.task.aterr)),
-            0x32 => replied(self, Event::Stay, wide(self.task.atint)),
-            0x34 => replied(self, Event::Stay, wide(self.task.atblo)),
-            0x35 => replied(self, Event::Stay, wide(self.task.atbhi)),
-            0x37 => replied(self, Event::Stay, wide(self.task.atcmd)),
-            0x38 => replied(self, Event::Stay, self.atsta_byte()),
-            0x3A => replied(self, Event::Stay, ring.last),
-            0x3B => replied(self, Event::Stay, 0),
-            0x80 => replied(self, Event::Stay, judgement.tarsta()),
-            0x9A => replied(self, Event::Stay, self.bicctl_byte()),
-            0x9B => replied(self, Event::Stay, self.counts.bufc),
-            0x9C => replied(self, Event::Stay, self.acctl_byte()),
-            0x9D => replied(self, Event::Stay, self.counts.tcc),
-            0x9F => replied(self, Event::Stay, self.counts.ttc),
-            _ => refuse(self, 2),
-        }
+        let value = match reg {
+            0x12 => self.mbc as u16,
+            0x18 => self.asctrl_byte(),
+            0x24 => ring.t,
+            0x25 => 0,
+            0x30 => self.miss2_byte(),
+            0x31 => self.task.aterr as u16,
+            0x32 => self.task.atint as u16,
+            0x34 => self.task.atblo as u16,
+            0x35 => self.task.atbhi as u16,
+            0x37 => self.task.atcmd as u16,
+            0x38 => self.atsta_byte(),
+            0x3A => ring.last,
+            0x3B => 0,
+            0x80 => self.judgement.tarsta(),
+            0x9A => self.bicctl_byte(),
+            0x9B => self.counts.bufc,
+            0x9C => self.acctl_byte(),
+            0x9D => self.counts.tcc,
+            0x9F => self.counts.ttc,
+            _ => return Err(Refusal::Unlisted),
+        };
+        Ok(self.shows(value))
     }
 }

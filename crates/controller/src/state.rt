@@ -5,7 +5,7 @@ ghost use Rattle.controller.specs.State.{initial};
 use sector::{Address, Judgement};
 
 // TCC (9Dh), BUFC (9Bh), TTC (9Fh). held: a bad sector was stored and DECEN has not been low since.
-#[derive(Clone, Copy)]
+#[derive(Clone, Copy, Debug, PartialEq, Eq, Default)]
 pub struct Counts {
     pub tcc: u16,
     pub bufc: u16,
@@ -14,7 +14,7 @@ pub struct Counts {
 }
 
 // DECEN of CTRL0 (0Ah), BLIMEN and BLIMS of BICCTL (9Ah), BUFLIM (9Bh).
-#[derive(Clone, Copy)]
+#[derive(Clone, Copy, Debug, PartialEq, Eq, Default)]
 pub struct Buffering {
     pub decen: bool,
     pub blimen: bool,
@@ -23,7 +23,7 @@ pub struct Buffering {
 }
 
 // ACCTL (9Ch).
-#[derive(Clone, Copy)]
+#[derive(Clone, Copy, Debug, PartialEq, Eq, Default)]
 pub struct Acctl {
     pub atten: bool,
     pub acmen: bool,
@@ -32,7 +32,7 @@ pub struct Acctl {
 }
 
 // ASCTRL (18h).
-#[derive(Clone, Copy)]
+#[derive(Clone, Copy, Debug, PartialEq, Eq, Default)]
 pub struct Asctrl {
     pub apkten: bool,
     pub adcen: bool,
@@ -43,7 +43,7 @@ pub struct Asctrl {
 }
 
 // ATSTA (written at 37h, read at 38h).
-#[derive(Clone, Copy)]
+#[derive(Clone, Copy, Debug, PartialEq, Eq, Default)]
 pub struct Atsta {
     pub bsy: bool,
     pub drdy: bool,
@@ -54,7 +54,7 @@ pub struct Atsta {
 }
 
 // ASCSTA (3Eh): what status completion puts into ATSTA.
-#[derive(Clone, Copy)]
+#[derive(Clone, Copy, Debug, PartialEq, Eq, Default)]
 pub struct Ascsta {
     pub drdy: bool,
     pub corr: bool,
@@ -62,7 +62,7 @@ pub struct Ascsta {
 }
 
 // ATERR (31h), ATINT (32h), ATBLO (34h), ATBHI (35h), ATCMD (read at 37h).
-#[derive(Clone, Copy)]
+#[derive(Clone, Copy, Debug, PartialEq, Eq, Default)]
 pub struct Task {
     pub aterr: u8,
     pub atint: u8,
@@ -71,15 +71,15 @@ pub struct Task {
     pub atcmd: u8,
 }
 
-// The part of a block that is transferred. No window has 0 words.
-#[derive(Clone, Copy)]
+// The part of a block that is transferred; with 0 words none is set.
+#[derive(Clone, Copy, Debug, PartialEq, Eq, Default)]
 pub struct Window {
     pub offset: u16,
     pub words: u16,
 }
 
 // left: blocks of the transfer not yet read whole. position: words read of the present one.
-#[derive(Clone, Copy)]
+#[derive(Clone, Copy, Debug, PartialEq, Eq, Default)]
 pub struct Transfer {
     pub running: bool,
     pub left: u16,
@@ -87,7 +87,7 @@ pub struct Transfer {
 }
 
 // APKT and FPKT of MISS2 (30h), the packet's bytes, and how many words of it have come.
-#[derive(Clone, Copy)]
+#[derive(Clone, Copy, Debug, PartialEq, Eq, Default)]
 pub struct Packet {
     pub apkt: bool,
     pub fpkt: bool,
@@ -97,7 +97,7 @@ pub struct Packet {
 }
 
 // adsc is bit 4 of APKSTA (3Dh); judgement is of the last stored sector, shown by TARSTA (80h); mbc is MBTC0 (12h).
-#[derive(Clone, Copy)]
+#[derive(Clone, Copy, Debug, PartialEq, Eq, Default)]
 pub struct Controller {
     pub counts: Counts,
     pub expected: Address,
@@ -122,125 +122,16 @@ impl Controller {
         ensures { result ≡ initial }
     {
         Controller {
-            counts: no_counts(),
             expected: Address {
-                minute: 0,
                 second: 2,
-                frame: 0,
+                ..Address::default()
             },
-            buffering: no_buffering(),
-            acctl: no_cache(),
-            asctrl: no_sequence(),
-            atsta: no_status(),
-            ascsta: Ascsta {
-                drdy: false,
-                corr: false,
-                check: false,
+            task: Task {
+                atblo: 0x14,
+                atbhi: 0xEB,
+                ..Task::default()
             },
-            adsc: false,
-            judgement: Judgement::none(),
-            task: first_task(),
-            mbc: 0,
-            window: Window {
-                offset: 0,
-                words: 0,
-            },
-            transfer: no_transfer(),
-            packet: no_packet(),
-            hirq: false,
+            ..Controller::default()
         }
-    }
-}
-
-fn no_sequence() -> Asctrl
-    ensures { result ≡ initial.asctrl }
-{
-    Asctrl {
-        apkten: false,
-        adcen: false,
-        ascen: false,
-        autoen: false,
-        stwcen: false,
-        a0ien: false,
-    }
-}
-
-fn no_status() -> Atsta
-    ensures { result ≡ initial.atsta }
-{
-    Atsta {
-        bsy: false,
-        drdy: false,
-        dsc: false,
-        drq: false,
-        corr: false,
-        check: false,
-    }
-}
-
-fn first_task() -> Task
-    ensures { result ≡ initial.task }
-{
-    Task {
-        aterr: 0,
-        atint: 0,
-        atblo: 0x14,
-        atbhi: 0xEB,
-        atcmd: 0,
-    }
-}
-
-fn no_packet() -> Packet
-    ensures { result ≡ initial.packet }
-{
-    Packet {
-        apkt: false,
-        fpkt: false,
-        receiving: false,
-        received: 0,
-        bytes: [0; 12],
-    }
-}
-
-fn no_counts() -> Counts
-    ensures { result ≡ initial.counts }
-{
-    Counts {
-        tcc: 0,
-        bufc: 0,
-        ttc: 0,
-        held: false,
-    }
-}
-
-fn no_buffering() -> Buffering
-    ensures { result ≡ initial.buffering }
-{
-    Buffering {
-        decen: false,
-        blimen: false,
-        blims: false,
-        buflim: 0,
-    }
-}
-
-fn no_cache() -> Acctl
-    ensures { result ≡ initial.acctl }
-{
-    Acctl {
-        atten: false,
-        acmen: false,
-        tcincen: false,
-        atlim: 0,
-    }
-}
-
-fn no_transfer() -> Transfer
-    ensures { result ≡ initial.transfer }
-{
-    Transfer {
-        running: false,
-        left: 0,
-        position: 0,
     }
 }

@@ -1,13 +1,13 @@
-// What a controller call answers: the controller afterwards, what becomes of the ring, and the reply.
+// What a controller call answers: the controller afterwards, what becomes of the ring, and the result. A refusal gives no controller: whoever called has it still.
 ghost use Rattle.std.specs.Prelude.{◌≡◌};
-ghost use Rattle.controller.specs.Step.{refused, done, replied};
+ghost use Rattle.controller.specs.declared.step.Event.TheVariants.{Stay};
+ghost use Rattle.controller.specs.Step.{accepted, replied};
 
 use crate::state::Controller;
-use reply::Reply;
 
 // Stay: the ring is as it was. Store: block B was filled, B goes on. Advance: T goes on by so many blocks.
 // Rewind: B comes to stand so many blocks after T. Move: T and B come to stand at a block. Clear: as opened.
-#[derive(Clone, Copy)]
+#[derive(Clone, Copy, Debug, PartialEq, Eq)]
 pub enum Event {
     Stay,
     Store,
@@ -18,55 +18,48 @@ pub enum Event {
 }
 
 // What a call is told of the ring: the number of blocks, which bounds BUFLIM and T, and the block numbers that are read.
-#[derive(Clone, Copy)]
+#[derive(Clone, Copy, Debug, PartialEq, Eq)]
 pub struct RingFacts {
     pub n: u16,
     pub t: u16,
     pub last: u16,
 }
 
-#[derive(Clone, Copy)]
-pub struct Step {
+// A call that was not refused.
+#[derive(Clone, Copy, Debug, PartialEq, Eq)]
+pub struct Accepted {
     pub controller: Controller,
     pub event: Event,
-    pub reply: Reply,
+    pub value: u16,
 }
 
-pub fn refuse(controller: Controller, number: u8) -> Step
-    ensures { result ≡ refused controller number }
-{
-    Step {
-        controller: controller,
-        event: Event::Stay,
-        reply: Reply {
-            number: number,
-            result: 0,
-        },
+impl Controller {
+    // Done, with no result; the ring stays.
+    pub(crate) fn done(self) -> Accepted
+        ensures { accepted result ≡ replied self Stay 0 }
+    {
+        self.moves(Event::Stay)
     }
-}
 
-pub fn done(controller: Controller) -> Step
-    ensures { result ≡ done controller }
-{
-    Step {
-        controller: controller,
-        event: Event::Stay,
-        reply: Reply {
-            number: 0,
-            result: 0,
-        },
+    // Done, with no result.
+    pub(crate) fn moves(self, event: Event) -> Accepted
+        ensures { accepted result ≡ replied self event 0 }
+    {
+        Accepted {
+            controller: self,
+            event,
+            value: 0,
+        }
     }
-}
 
-pub fn replied(controller: Controller, event: Event, value: u16) -> Step
-    ensures { result ≡ replied controller event value }
-{
-    Step {
-        controller: controller,
-        event: event,
-        reply: Reply {
-            number: 0,
-            result: value,
-        },
+    // Done, with a result; the ring stays.
+    pub(crate) fn shows(self, value: u16) -> Accepted
+        ensures { accepted result ≡ replied self Stay value }
+    {
+        Accepted {
+            controller: self,
+            event: Event::Stay,
+            value,
+        }
     }
 }

@@ -1,10 +1,11 @@
 // Transfers: the start, by 17h or by itself, status completion and the signature.
 ghost use Rattle.std.specs.Prelude.{◌≡◌, ◌+◌, ◌*◌, ◌<◌, ◌≤◌, min};
+ghost use Rattle.controller.specs.Step.{accepted, step_of};
 ghost use Rattle.controller.specs.Transfer.{engaged, start_switches, limit, most_blocks, blocks_asked, start_blocks, byte_count, begun, start, settled, concluded, completed, signed};
 
 use crate::state::Controller;
-use crate::step::{Step, done, refuse};
-use numbers::{least, wide};
+use crate::step::Accepted;
+use reply::{Refusal, refuse_if};
 
 // The blocks that are asked for, but no more than have 65,534 bytes, which are 32,767 words. Those above are taken off one by one, so that nothing is divided:
 // in a sound record, which asks for 32 blocks of 1,176 words at most, there are five at most.
@@ -32,25 +33,26 @@ impl Controller {
     fn start_switches(self) -> bool
         ensures { result ≡ start_switches self }
     {
-        self.acctl.acmen & self.asctrl.adcen & !(self.window.words == 0) & self.atsta.bsy
+        self.acctl.acmen & self.asctrl.adcen & (self.window.words != 0) & self.atsta.bsy
     }
 
     fn limit(self) -> u16
         ensures { (result ≡ limit self) × (result < 256) }
     {
-        if self.acctl.atlim == 0 {
-            return 32;
+        match self.acctl.atlim {
+            0 => 32,
+            atlim => atlim as u16,
         }
-        wide(self.acctl.atlim)
     }
 
     fn blocks_asked(self) -> u16
         ensures { (result ≡ blocks_asked self) × (result ≤ 256) }
     {
         if self.counts.ttc == 0 {
-            return self.mbc as u16 + 1;
+            self.mbc as u16 + 1
+        } else {
+            self.limit().min(self.counts.tcc.min(self.counts.ttc))
         }
-        least(self.limit(), least(self.counts.tcc, self.counts.ttc))
     }
 
     // The blocks of a start that has a window.
@@ -62,59 +64,52 @@ impl Controller {
     }
 
     // The count fits in its two registers.
+    #[tactic(auto, unfolding(crate::specs::Transfer::byte_count))]
     fn byte_count(mut self) -> Controller
         requires { (self.mbc + 1) * self.window.words * 2 < 65536 }
         ensures { result ≡ byte_count self }
     {
-        if !self.asctrl.stwcen {
-            return self;
+        if self.asctrl.stwcen {
+            let bytes = (self.mbc as u16 + 1) * self.window.words * 2;
+            [self.task.atblo, self.task.atbhi] = bytes.to_le_bytes();
         }
-        let bytes = (self.mbc as u16 + 1) * self.window.words * 2;
-        let low = (bytes % 256) as u8;
-        let high = (bytes / 256) as u8;
-        self.task.atblo = low;
-        self.task.atbhi = high;
         self
     }
 
     fn begun(mut self) -> Controller
         ensures { result ≡ begun self }
     {
-        let blocks = self.mbc as u16 + 1;
         self.task.atint = 2;
         self.atsta.drq = true;
         self.atsta.bsy = false;
         self.hirq = true;
         self.transfer.running = true;
-        self.transfer.left = blocks;
+        self.transfer.left = self.mbc as u16 + 1;
         self.transfer.position = 0;
         self
     }
 
     // ASTRG (17h) 04h, where it is not barred.
-    pub fn start(mut self) -> Step
-        ensures { result ≡ start self }
+    #[tactic(auto, unfolding(crate::specs::Transfer::start))]
+    pub fn start(mut self) -> Result<Accepted, Refusal>
+        ensures { step_of self result ≡ start self }
     {
-        if !self.start_switches() {
-            return refuse(self, 5);
-        }
+        refuse_if(!self.start_switches(), Refusal::Unready)?;
         let blocks = self.start_blocks();
-        if (blocks == 0) | (self.counts.tcc < blocks) {
-            return refuse(self, 6);
-        }
-        let mbc = (blocks - 1) as u8;
-        self.mbc = mbc;
-        done(self.byte_count().begun())
+        refuse_if((blocks == 0) | (self.counts.tcc < blocks), Refusal::TooFew)?;
+        self.mbc = (blocks - 1) as u8;
+        Ok(self.byte_count().begun().done())
     }
 
     // What follows an accepted call by itself.
+    #[tactic(auto, unfolding(crate::specs::Transfer::settled))]
     fn settle(self) -> Controller
         ensures { result ≡ settled self }
     {
-        if self.acctl.atten & !(self.counts.ttc == 0) & !self.engaged() {
-            let step = self.start();
-            let controller = step.controller;
-            return controller;
+        if self.acctl.atten & (self.counts.ttc != 0) & !self.engaged() {
+            if let Ok(started) = self.start() {
+                return started.controller;
+            }
         }
         self
     }
@@ -123,16 +118,14 @@ impl Controller {
     pub fn complete(mut self) -> Controller
         ensures { result ≡ completed self }
     {
-        let ascsta = self.ascsta;
-        self.atsta.check = ascsta.check;
-        self.atsta.corr = ascsta.corr;
-        self.atsta.drdy = ascsta.drdy;
+        self.atsta.check = self.ascsta.check;
+        self.atsta.corr = self.ascsta.corr;
+        self.atsta.drdy = self.ascsta.drdy;
         self.atsta.drq = false;
         self.task.atint = 3;
         self.atsta.bsy = false;
         self.hirq = true;
-        let apkten = self.asctrl.apkten | self.asctrl.autoen;
-        self.asctrl.apkten = apkten;
+        self.asctrl.apkten |= self.asctrl.autoen;
         self.asctrl.ascen = false;
         self
     }
@@ -151,18 +144,13 @@ impl Controller {
     }
 }
 
-impl Step {
-    // The end of every call: an accepted one lets a start follow.
-    pub fn conclude(mut self) -> Step
-        ensures { result ≡ concluded self }
+impl Accepted {
+    // The end of every accepted call: a start may follow.
+    #[tactic(auto, unfolding(crate::specs::Transfer::concluded))]
+    pub fn conclude(mut self) -> Accepted
+        ensures { accepted result ≡ concluded (accepted self) }
     {
-        let reply = self.reply;
-        if reply.number == 0 {
-            let controller = self.controller;
-            let settled = controller.settle();
-            self.controller = settled;
-            return self;
-        }
+        self.controller = self.controller.settle();
         self
     }
 }

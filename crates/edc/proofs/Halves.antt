@@ -6,7 +6,7 @@ use native.Mathlib.Nat.{mod-lt}
 use native.Mathlib.Omega.{arith}
 use lib.ListN.{get_or}
 use lib.Pow.{pow_pos}
-use lib.Bits.{bit_xor, xor_lt, xor_zero_l}
+use lib.Bits.{bit_xor, xor_zero_l}
 use Rattle.laws.proofs.Sum.{sums, op, ◌⊕◌}
 use Rattle.edc.specs.Fold.{shifts, code, along, halved}
 use Rattle.edc.proofs.Shifts.{shifts_xor, shifts_add, shifts_split}
@@ -20,11 +20,12 @@ cut n k x =
     ∙ ap (λ (y : ℕ). bit_xor y (shifts n (x / 2 ^ k))) (sym (shifts_add k n (x % 2 ^ k)))
 
 -- two words to one, at the scale 2: the low half of the first goes to its high half and to the second, and then the high half
-pub two : (a b h : ℕ) → a < 2 ^ 64
-    → h ≡ bit_xor (bit_xor (bit_xor (a / 2 ^ 32) (a % 2 ^ 32)) (a % 2 ^ 32 % 2 ^ 8 * 2 ^ 24)) (a % 2 ^ 32 % 2 ^ 2 * 2 ^ 30) → h < 2 ^ 32
-    → shifts 64 (bit_xor (bit_xor (bit_xor (bit_xor (bit_xor b (a % 2 ^ 32 / 2 ^ 8)) (a % 2 ^ 32 / 2 ^ 2)) h) (h * 2 ^ 24)) (h * 2 ^ 30)) ≡ shifts 64 (bit_xor (shifts 64 a) b)
-two a b h ha e hh =
-    shifts_sum b (l / 2 ^ 8) (l / 2 ^ 2) h (h * 2 ^ 24) (h * 2 ^ 30)
+pub two : (a b low h : ℕ) → low ≡ a % 2 ^ 32 → h ≡ halved a → h < 2 ^ 32
+    → shifts 64 (bit_xor (bit_xor (bit_xor (bit_xor (bit_xor b (low / 2 ^ 8)) (low / 2 ^ 2)) h) (h * 2 ^ 24 % 2 ^ 64)) (h * 2 ^ 30 % 2 ^ 64)) ≡ shifts 64 (bit_xor (shifts 64 a) b)
+two a b low h el e hh =
+    ap (λ (x : ℕ). shifts 64 (bit_xor (bit_xor (bit_xor (bit_xor (bit_xor b (x / 2 ^ 8)) (x / 2 ^ 2)) h) (h * 2 ^ 24 % 2 ^ 64)) (h * 2 ^ 30 % 2 ^ 64))) el
+    ∙ ap₂ (λ (x y : ℕ). shifts 64 (bit_xor (bit_xor (bit_xor (bit_xor (bit_xor b (l / 2 ^ 8)) (l / 2 ^ 2)) h) x) y)) up_24 up_30
+    ∙ shifts_sum b (l / 2 ^ 8) (l / 2 ^ 2) h (h * 2 ^ 24) (h * 2 ^ 30)
     ∙ ap₂ (λ (x y : ℕ). bit_xor (bit_xor (bit_xor (bit_xor (bit_xor (shifts 64 b) (shifts 64 (l / 2 ^ 8))) (shifts 64 (l / 2 ^ 2))) (shifts 64 h)) x) y)
     (up 40 24 64 h refl) (up 34 30 64 h refl)
     ∙ sums (shifts 64 b ∷ shifts 64 (l / 2 ^ 8) ∷ shifts 64 (l / 2 ^ 2) ∷ shifts 64 h ∷ shifts 40 h ∷ shifts 34 h ∷ []) (op 0 ⊕ op 1 ⊕ op 2 ⊕ op 3 ⊕ op 4 ⊕ op 5)
@@ -42,6 +43,12 @@ two a b h ha e hh =
 
     hl : a % 2 ^ 32 < 2 ^ 32
     hl = mod-lt a (pow_pos 32)
+
+    up_24 : h * 2 ^ 24 % 2 ^ 64 ≡ h * 2 ^ 24
+    up_24 = omega arith
+
+    up_30 : h * 2 ^ 30 % 2 ^ 64 ≡ h * 2 ^ 30
+    up_30 = omega arith
 
     n₁ : 31 * 2 ≤ 96
     n₁ = omega arith
@@ -61,13 +68,6 @@ two a b h ha e hh =
         ∙ ap₂ bit_xor
         (shifts_xor 96 (bit_xor (a / 2 ^ 32) l) (l % 2 ^ 8 * 2 ^ 24) ∙ ap₂ bit_xor (shifts_xor 96 (a / 2 ^ 32) l) (up 72 24 96 (l % 2 ^ 8) refl))
         (up 66 30 96 (l % 2 ^ 2) refl)
-
-pub high_lt : (a : ℕ) → a < 2 ^ 64
-    → bit_xor (bit_xor (bit_xor (a / 2 ^ 32) (a % 2 ^ 32)) (a % 2 ^ 32 % 2 ^ 8 * 2 ^ 24)) (a % 2 ^ 32 % 2 ^ 2 * 2 ^ 30) < 2 ^ 32
-high_lt a h =
-    xor_lt 32 (bit_xor (bit_xor (a / 2 ^ 32) (a % 2 ^ 32)) (a % 2 ^ 32 % 2 ^ 8 * 2 ^ 24)) (a % 2 ^ 32 % 2 ^ 2 * 2 ^ 30)
-    (xor_lt 32 (bit_xor (a / 2 ^ 32) (a % 2 ^ 32)) (a % 2 ^ 32 % 2 ^ 8 * 2 ^ 24) (xor_lt 32 (a / 2 ^ 32) (a % 2 ^ 32) (omega arith) (omega arith)) (omega arith))
-    (omega arith)
 
 -- a word's register: only its high half is left to be moved on
 pub half_left : (x : ℕ) → shifts 64 x ≡ bit_xor (bit_xor (shifts 32 (halved x)) (x % 2 ^ 32 / 2 ^ 8)) (x % 2 ^ 32 / 2 ^ 2)

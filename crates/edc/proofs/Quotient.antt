@@ -79,15 +79,15 @@ module _ (k₁ k₂ k₃ k₄ k₅ k₆ k₇ k₈ k₉ k₁₀ : ℕ) where
       (lt_or_ge k n)
 
   -- the code's results one after another
-  pub out_is : (q r₁ r₂ r₃ r₄ r₅ r₆ r₇ r₈ r₉ r₁₀ : ℕ) → r₁ ≡ on k₁ q → r₂ ≡ on k₂ r₁ → r₃ ≡ on k₃ r₂ → r₄ ≡ on k₄ r₃ → r₅ ≡ up k₅ r₁ → r₆ ≡ up k₆ q
-      → r₇ ≡ on k₇ (bit_xor (bit_xor r₄ r₅) r₆ % 2 ^ 32) → r₈ ≡ up k₈ (bit_xor (bit_xor r₄ r₅) r₆ % 2 ^ 32) → r₉ ≡ up k₉ (bit_xor (bit_xor r₄ r₅) r₆ % 2 ^ 32)
+  pub out_is : (q r₁ r₂ r₃ r₄ r₅ r₆ w r₇ r₈ r₉ r₁₀ : ℕ) → r₁ ≡ on k₁ q → r₂ ≡ on k₂ r₁ → r₃ ≡ on k₃ r₂ → r₄ ≡ on k₄ r₃ → r₅ ≡ up k₅ r₁ → r₆ ≡ up k₆ q
+      → w ≡ bit_xor (bit_xor r₄ r₅) r₆ % 2 ^ 32 → r₇ ≡ on k₇ w → r₈ ≡ up k₈ w → r₉ ≡ up k₉ w
       → r₁₀ ≡ on k₁₀ (bit_xor (bit_xor r₇ r₈) r₉) → q < 2 ^ 32 → right 32 ≡ true → r₁₀ / 2 ^ 32 ≡ shifts 32 q
   unfolding on up
-  out_is q r₁ r₂ r₃ r₄ r₅ r₆ r₇ r₈ r₉ r₁₀ e₁ e₂ e₃ e₄ e₅ e₆ e₇ e₈ e₉ e₁₀ h t =
+  out_is q r₁ r₂ r₃ r₄ r₅ r₆ w r₇ r₈ r₉ r₁₀ e₁ e₂ e₃ e₄ e₅ e₆ cut e₇ e₈ e₉ e₁₀ h t =
       ap (λ (x : ℕ). x / 2 ^ 32) (e₁₀ ∙ ap (on k₁₀) (ap₂ bit_xor (ap₂ bit_xor (e₇ ∙ ap (on k₇) d) (e₈ ∙ ap (up k₈) d)) (e₉ ∙ ap (up k₉) d)))
       ∙ agree out (shifts 32) out_linear (shifts_xor 32) 32 (λ k l. right_at 32 k t l) q h
     where
-      d : bit_xor (bit_xor r₄ r₅) r₆ % 2 ^ 32 ≡ e q
+      d : w ≡ e q
       d =
-          ap (λ (x : ℕ). x % 2 ^ 32)
+          cut ∙ ap (λ (x : ℕ). x % 2 ^ 32)
           (ap₂ bit_xor (ap₂ bit_xor (e₄ ∙ ap (on k₄) (e₃ ∙ ap (on k₃) (e₂ ∙ ap (on k₂) e₁))) (e₅ ∙ ap (up k₅) e₁)) e₆)

@@ -5,7 +5,7 @@ use mathlib.Core.List.{List, [], ◌∷◌}
 use Prim.Native.Nat.{ℕ, suc, ◌+◌, ◌-◌, ◌*◌, ◌%◌, ◌^◌, ◌<◌, ◌≤◌}
 use native.Mathlib.Nat.{lt_of_lt_of_le}
 use native.Mathlib.Omega.{arith}
-use lib.ListN.{length, get_or, set, replicate, length-set}
+use lib.ListN.{length, get_or, set, replicate}
 use lib.Seq.{get_or-set_same, get_or-set_other}
 use lib.Pow.{pow_mono}
 use lib.Bits.{bit_xor, xor_zero_r}
@@ -96,15 +96,13 @@ held_empty = ap₂ bit_xor (ap₂ bit_xor (none 31) (none 15)) (none 3)
 -- the words from place 1 on, when each up to i has the one `back` before it xored in
 abbrev pub Back : ℕ → List ℕ → List ℕ → ℕ → Type 0
 Back back x₀ x i =
-    (length x ≡ 32)
-    × ((k : ℕ) → k ≤ back → get_or x k 0 ≡ get_or x₀ k 0)
+    ((k : ℕ) → k ≤ back → get_or x k 0 ≡ get_or x₀ k 0)
     × (code (along x 1) 31 ≡ bit_xor (code (along x₀ 1) 31) (shifts (64 * (32 - i)) (code (along x₀ 1) (i - (back + 1)))))
 
-pub back_none : (back : ℕ) (x : List ℕ) → length x ≡ 32 → Back back x x (back + 1)
+pub back_none : (back : ℕ) (x : List ℕ) → Back back x x (back + 1)
 unfolding code
-back_none back x n =
+back_none back x =
     let e : back + 1 - (back + 1) ≡ 0 = omega arith in (
-      n,
       (λ k h. refl),
       sym (ap (λ (k : ℕ). bit_xor (code (along x 1) 31) (shifts (64 * (32 - (back + 1))) (code (along x 1) k))) e
           ∙ ap (bit_xor (code (along x 1) 31)) (shifts_empty (64 * (32 - (back + 1)))) ∙ xor_zero_r (code (along x 1) 31)),
@@ -113,22 +111,21 @@ back_none back x n =
 pub back_end : (back i : ℕ) (x₀ x : List ℕ) → i ≡ 32 → Back back x₀ x i
     → code (along x 1) 31 ≡ bit_xor (code (along x₀ 1) 31) (code (along x₀ 1) (31 - back))
 unfolding shifts
-back_end back i x₀ x q (n, kept, e) =
+back_end back i x₀ x q (kept, e) =
     let a : 64 * (32 - i) ≡ 0 = omega arith in
     let b : i - (back + 1) ≡ 31 - back = omega arith in
     e ∙ ap₂ (λ (k m : ℕ). bit_xor (code (along x₀ 1) 31) (shifts k (code (along x₀ 1) m))) a b
 
-pub back_next : (back i : ℕ) (x₀ x : List ℕ) → 16 ≤ back → back < i → i < 32 → Back back x₀ x i
+pub back_next : (back i : ℕ) (x₀ x : List ℕ) → length x ≡ 32 → 16 ≤ back → back < i → i < 32 → Back back x₀ x i
     → Back back x₀ (set x i (bit_xor (get_or x i 0) (get_or x (i - back) 0))) (i + 1)
 unfolding code
-back_next back i x₀ x hb hi l (n, kept, e) =
+back_next back i x₀ x n hb hi l (kept, e) =
     let a : 1 ≤ i = omega arith in
     let b : i < 1 + 31 = omega arith in
     let c : i < length x = omega arith in
     let m : i + 1 - (back + 1) ≡ suc (i - (back + 1)) = omega arith in
     let o : i - back ≡ 1 + (i - (back + 1)) = omega arith in
     let t : 64 * (32 - i) ≡ 64 + 64 * (32 - (i + 1)) = omega arith in (
-      length-set x i (bit_xor (get_or x i 0) y) ∙ n,
       (λ k h. get_or-set_other x i k (bit_xor (get_or x i 0) y) 0 (λ z. omega arith) ∙ kept k h),
       code_xor x 1 31 i y a b c ∙ ap₂ (λ (v w : ℕ). bit_xor v (shifts (64 * (32 - i)) w)) e (kept (i - back) (omega arith) ∙ ap (λ (k : ℕ). get_or x₀ k 0) o)
           ∙ sums (code (along x₀ 1) 31 ∷ shifts (64 * (32 - i)) d ∷ shifts (64 * (32 - i)) w ∷ []) (op 0 ⊕ op 1 ⊕ op 2) (op 0 ⊕ (op 1 ⊕ op 2)) refl

@@ -13,19 +13,21 @@ mod words;
 ghost use Rattle.std.specs.Prelude.{◌≡◌};
 ghost use Rattle.edc.specs.Edc.{edc};
 
+use division::Ring;
+
 // The error detection code of the bytes, whatever their number. Zeros before them change nothing, so that the first run may be filled up.
 // Ruled out: one that feeds the highest bit of a byte first, and one that leaves out what is over after whole runs of 256 bytes.
+#[tactic(auto, using(crate::proofs::Octets::edc_parts, crate::proofs::Octets::edc_run, crate::proofs::Laws::edc_end, crate::proofs::Ring::held_empty))]
 pub fn edc(bytes: &[u8]) -> u32
     ensures { result ≡ edc 0 bytes.now }
 {
-    let mut at = bytes.len() % 256;
-    let mut ring: [u64; 32] = [0; 32];
+    let (over, runs): (&[u8], &[[u8; 256]]) = bytes.as_rchunks();
     let mut first: [u8; 256] = [0; 256];
-    words::pad(&mut first, bytes, at);
-    division::turn(&mut ring, &first, 0);
-    while at < bytes.len() {
-        division::turn(&mut ring, bytes, at);
-        at += 256;
+    words::pad(&mut first, over);
+    let mut ring = Ring { words: [0; 32] };
+    ring.turn(&first);
+    for run in runs {
+        ring.turn(run);
     }
-    register::register(folding::one_word(&mut ring))
+    register::register(ring.one_word())
 }

@@ -1,4 +1,5 @@
 -- Proofs of the encoding.
-pub mod Groups
 pub mod Laid
 pub mod Moved
+pub mod Packet
+pub mod Switches

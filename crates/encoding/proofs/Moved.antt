@@ -47,7 +47,3 @@ module _ (ws : List ℕ) (v : ℕ) (long : 14 < length ws) where
         other 26 refl,
         other 27 refl,
       )
-
-pub position_is : (ws : List ℕ) → (decoded ws).controller.transfer.position ≡ get_or ws 14 0
-unfolding decoded
-position_is ws = refl

@@ -2,10 +2,10 @@
 ghost use Rattle.std.specs.Prelude.{◌≡◌};
 ghost use Rattle.encoding.specs.Words.{controller_in, place_in, decoded};
 
-use crate::pairs::{high, low};
 use chip::Chip;
 use controller::{
     Acctl, Ascsta, Asctrl, Atsta, Buffering, Controller, Counts, Packet, Task, Transfer, Window,
+    bit,
 };
 use ring::Place;
 use sector::{Address, Judgement};
@@ -17,7 +17,7 @@ fn counts(words: &[u16; 28]) -> Counts
         tcc: words[4],
         bufc: words[5],
         ttc: words[6],
-        held: (words[20] >> 0) % 2 == 1,
+        held: bit(words[20], 0),
     }
 }
 
@@ -35,9 +35,9 @@ fn buffering(words: &[u16; 28]) -> Buffering
     ensures { result ≡ (controller_in words.now).buffering }
 {
     Buffering {
-        decen: (words[20] >> 1) % 2 == 1,
-        blimen: (words[20] >> 2) % 2 == 1,
-        blims: (words[20] >> 3) % 2 == 1,
+        decen: bit(words[20], 1),
+        blimen: bit(words[20], 2),
+        blims: bit(words[20], 3),
         buflim: words[10],
     }
 }
@@ -45,11 +45,12 @@ fn buffering(words: &[u16; 28]) -> Buffering
 fn acctl(words: &[u16; 28]) -> Acctl
     ensures { result ≡ (controller_in words.now).acctl }
 {
+    let [atlim, _] = words[16].to_le_bytes();
     Acctl {
-        atten: (words[20] >> 4) % 2 == 1,
-        acmen: (words[20] >> 5) % 2 == 1,
-        tcincen: (words[20] >> 6) % 2 == 1,
-        atlim: low(words[16]),
+        atten: bit(words[20], 4),
+        acmen: bit(words[20], 5),
+        tcincen: bit(words[20], 6),
+        atlim,
     }
 }
 
@@ -57,12 +58,12 @@ fn asctrl(words: &[u16; 28]) -> Asctrl
     ensures { result ≡ (controller_in words.now).asctrl }
 {
     Asctrl {
-        apkten: (words[20] >> 8) % 2 == 1,
-        adcen: (words[20] >> 9) % 2 == 1,
-        ascen: (words[20] >> 10) % 2 == 1,
-        autoen: (words[20] >> 11) % 2 == 1,
-        stwcen: (words[20] >> 12) % 2 == 1,
-        a0ien: (words[20] >> 13) % 2 == 1,
+        apkten: bit(words[20], 8),
+        adcen: bit(words[20], 9),
+        ascen: bit(words[20], 10),
+        autoen: bit(words[20], 11),
+        stwcen: bit(words[20], 12),
+        a0ien: bit(words[20], 13),
     }
 }
 
@@ -70,12 +71,12 @@ fn atsta(words: &[u16; 28]) -> Atsta
     ensures { result ≡ (controller_in words.now).atsta }
 {
     Atsta {
-        bsy: (words[21] >> 0) % 2 == 1,
-        drdy: (words[21] >> 1) % 2 == 1,
-        dsc: (words[21] >> 2) % 2 == 1,
-        drq: (words[21] >> 3) % 2 == 1,
-        corr: (words[21] >> 4) % 2 == 1,
-        check: (words[21] >> 5) % 2 == 1,
+        bsy: bit(words[21], 0),
+        drdy: bit(words[21], 1),
+        dsc: bit(words[21], 2),
+        drq: bit(words[21], 3),
+        corr: bit(words[21], 4),
+        check: bit(words[21], 5),
     }
 }
 
@@ -83,33 +84,37 @@ fn ascsta(words: &[u16; 28]) -> Ascsta
     ensures { result ≡ (controller_in words.now).ascsta }
 {
     Ascsta {
-        drdy: (words[21] >> 8) % 2 == 1,
-        corr: (words[21] >> 9) % 2 == 1,
-        check: (words[21] >> 10) % 2 == 1,
+        drdy: bit(words[21], 8),
+        corr: bit(words[21], 9),
+        check: bit(words[21], 10),
     }
 }
 
 fn judgement(words: &[u16; 28]) -> Judgement
     ensures { result ≡ (controller_in words.now).judgement }
 {
-    let why = high(words[19]);
+    let [_, why] = words[19].to_le_bytes();
+    let why = u16::from(why);
     Judgement {
-        sync: (why >> 3) % 2 == 1,
-        mode: (why >> 2) % 2 == 1,
-        edc: (why >> 1) % 2 == 1,
-        address: (why >> 0) % 2 == 1,
+        sync: bit(why, 3),
+        mode: bit(why, 2),
+        edc: bit(why, 1),
+        address: bit(why, 0),
     }
 }
 
 fn task(words: &[u16; 28]) -> Task
     ensures { result ≡ (controller_in words.now).task }
 {
+    let [aterr, atint] = words[17].to_le_bytes();
+    let [atblo, atbhi] = words[18].to_le_bytes();
+    let [atcmd, _] = words[19].to_le_bytes();
     Task {
-        aterr: low(words[17]),
-        atint: high(words[17]),
-        atblo: low(words[18]),
-        atbhi: high(words[18]),
-        atcmd: low(words[19]),
+        aterr,
+        atint,
+        atblo,
+        atbhi,
+        atcmd,
     }
 }
 
@@ -126,7 +131,7 @@ fn transfer(words: &[u16; 28]) -> Transfer
     ensures { result ≡ (controller_in words.now).transfer }
 {
     Transfer {
-        running: (words[21] >> 6) % 2 == 1,
+        running: bit(words[21], 6),
         left: words[13],
         position: words[14],
     }
@@ -135,26 +140,16 @@ fn transfer(words: &[u16; 28]) -> Transfer
 fn packet(words: &[u16; 28]) -> Packet
     ensures { result ≡ (controller_in words.now).packet }
 {
-    let bytes = [
-        low(words[22]),
-        high(words[22]),
-        low(words[23]),
-        high(words[23]),
-        low(words[24]),
-        high(words[24]),
-        low(words[25]),
-        high(words[25]),
-        low(words[26]),
-        high(words[26]),
-        low(words[27]),
-        high(words[27]),
-    ];
+    let mut bytes = [0; 12];
+    for i in 0..6 {
+        [bytes[2 * i], bytes[2 * i + 1]] = words[22 + i].to_le_bytes();
+    }
     Packet {
-        apkt: (words[21] >> 11) % 2 == 1,
-        fpkt: (words[21] >> 12) % 2 == 1,
-        receiving: (words[21] >> 13) % 2 == 1,
+        apkt: bit(words[21], 11),
+        fpkt: bit(words[21], 12),
+        receiving: bit(words[21], 13),
         received: words[15],
-        bytes: bytes,
+        bytes,
     }
 }
 
@@ -172,6 +167,7 @@ fn place(words: &[u16; 28]) -> Place
 fn controller(words: &[u16; 28]) -> Controller
     ensures { result ≡ controller_in words.now }
 {
+    let [_, mbc] = words[16].to_le_bytes();
     Controller {
         counts: counts(words),
         expected: expected(words),
@@ -180,19 +176,20 @@ fn controller(words: &[u16; 28]) -> Controller
         asctrl: asctrl(words),
         atsta: atsta(words),
         ascsta: ascsta(words),
-        adsc: (words[20] >> 7) % 2 == 1,
+        adsc: bit(words[20], 7),
         judgement: judgement(words),
         task: task(words),
-        mbc: high(words[16]),
+        mbc,
         window: window(words),
         transfer: transfer(words),
         packet: packet(words),
-        hirq: (words[21] >> 7) % 2 == 1,
+        hirq: bit(words[21], 7),
     }
 }
 
 // The record that the words are.
 // Ruled out: one that takes T for B, and one that refuses words that are no sound record.
+#[tactic(auto, unfolding(crate::specs::Words::decoded))]
 pub fn decode(words: &[u16; 28]) -> Chip
     ensures { result ≡ decoded words.now }
 {

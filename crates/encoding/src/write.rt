@@ -1,12 +1,11 @@
 // A record written as its words.
 ghost use Rattle.std.specs.Prelude.{◌≡◌, ◌+◌, ◌<◌, length, set};
-ghost use Rattle.laws.specs.Bytes.{Bytes};
 ghost use Rattle.laws.specs.Numbers.{switches};
 ghost use Rattle.sector.specs.Judge.{why};
 ghost use Rattle.chip.specs.Chip.{at_position};
 ghost use Rattle.encoding.specs.Words.{word, decoded, encoded, first_switches, second_switches, packet_pairs, Ranged};
 
-use crate::pairs::{flags, pair};
+use crate::pairs::{pair, switches};
 use chip::Chip;
 use controller::Controller;
 
@@ -14,89 +13,74 @@ use controller::Controller;
 fn first_switches(c: Controller) -> u16
     ensures { result ≡ switches (first_switches c) }
 {
-    pair(
-        flags(
-            c.counts.held,
-            c.buffering.decen,
-            c.buffering.blimen,
-            c.buffering.blims,
-            c.acctl.atten,
-            c.acctl.acmen,
-            c.acctl.tcincen,
-            c.adsc,
-        ),
-        flags(
-            c.asctrl.apkten,
-            c.asctrl.adcen,
-            c.asctrl.ascen,
-            c.asctrl.autoen,
-            c.asctrl.stwcen,
-            c.asctrl.a0ien,
-            false,
-            false,
-        ),
-    )
+    switches([
+        c.counts.held,
+        c.buffering.decen,
+        c.buffering.blimen,
+        c.buffering.blims,
+        c.acctl.atten,
+        c.acctl.acmen,
+        c.acctl.tcincen,
+        c.adsc,
+        c.asctrl.apkten,
+        c.asctrl.adcen,
+        c.asctrl.ascen,
+        c.asctrl.autoen,
+        c.asctrl.stwcen,
+        c.asctrl.a0ien,
+    ])
 }
 
 // Word 21.
 fn second_switches(c: Controller) -> u16
     ensures { result ≡ switches (second_switches c) }
 {
-    pair(
-        flags(
-            c.atsta.bsy,
-            c.atsta.drdy,
-            c.atsta.dsc,
-            c.atsta.drq,
-            c.atsta.corr,
-            c.atsta.check,
-            c.transfer.running,
-            c.hirq,
-        ),
-        flags(
-            c.ascsta.drdy,
-            c.ascsta.corr,
-            c.ascsta.check,
-            c.packet.apkt,
-            c.packet.fpkt,
-            c.packet.receiving,
-            false,
-            false,
-        ),
-    )
+    switches([
+        c.atsta.bsy,
+        c.atsta.drdy,
+        c.atsta.dsc,
+        c.atsta.drq,
+        c.atsta.corr,
+        c.atsta.check,
+        c.transfer.running,
+        c.hirq,
+        c.ascsta.drdy,
+        c.ascsta.corr,
+        c.ascsta.check,
+        c.packet.apkt,
+        c.packet.fpkt,
+        c.packet.receiving,
+    ])
 }
 
 // The high byte of word 19.
 fn why_byte(c: Controller) -> u8
     ensures { result ≡ why c.judgement }
 {
-    let judgement = c.judgement;
-    judgement.why() as u8
+    c.judgement.why() as u8
 }
 
 // Words 22 to 27.
 fn packet_words(bytes: [u8; 12]) -> [u16; 6]
-    ensures { (result ≡ packet_pairs bytes) × Bytes bytes × (length bytes ≡ 12) }
+    ensures { result ≡ packet_pairs bytes }
 {
-    [
-        pair(bytes[0], bytes[1]),
-        pair(bytes[2], bytes[3]),
-        pair(bytes[4], bytes[5]),
-        pair(bytes[6], bytes[7]),
-        pair(bytes[8], bytes[9]),
-        pair(bytes[10], bytes[11]),
-    ]
+    let mut words = [0; 6];
+    for (i, word) in words.iter_mut().enumerate() {
+        *word = pair(bytes[2 * i], bytes[2 * i + 1]);
+    }
+    words
 }
 
 // All words, in their order; with them what the types say of the record.
+#[tactic(auto, unfolding(crate::specs::Words::encoded))]
 fn laid(chip: Chip) -> [u16; 28]
     ensures { (result ≡ encoded chip) × Ranged chip }
 {
-    let c = chip.controller;
-    let place = chip.place;
-    let received = c.packet;
-    let bytes = received.bytes;
-    let packet = packet_words(bytes);
+    let Chip {
+        controller: c,
+        place,
+    } = chip;
+    let [packet0, packet1, packet2, packet3, packet4, packet5] = packet_words(c.packet.bytes);
     [
         place.n,
         place.t,
@@ -120,39 +104,30 @@ fn laid(chip: Chip) -> [u16; 28]
         pair(c.task.atcmd, why_byte(c)),
         first_switches(c),
         second_switches(c),
-        packet[0],
-        packet[1],
-        packet[2],
-        packet[3],
-        packet[4],
-        packet[5],
+        packet0,
+        packet1,
+        packet2,
+        packet3,
+        packet4,
+        packet5,
     ]
 }
 
 // Writes a record over the words that were there.
 // Ruled out: one that leaves a word as it was, and one that writes two switches into one bit.
+#[tactic(auto, using(crate::proofs::Laid::decoded_encoded))]
 pub fn encode(words: &mut [u16; 28], chip: Chip)
     ensures { (words.new ≡ encoded chip) × (decoded words.new ≡ chip) }
 {
     *words = laid(chip);
 }
 
-// Taken by value, so that its length is known.
-fn advanced(words: [u16; 28]) -> [u16; 28]
-    requires { word words 14 + 1 < 65536 }
-    ensures { (result ≡ set words 14 (word words 14 + 1)) × (length words ≡ 28) }
-{
-    let mut next = words;
-    next[14] = next[14] + 1;
-    next
-}
-
 // Moves the transfer's position on by a word, which is all that most of the host's words change.
 // Ruled out: one that moves it by a byte count, and one that changes another word.
+#[tactic(auto, unfolding(crate::specs::Words::decoded), using(crate::proofs::Moved::moved))]
 pub fn advance(words: &mut [u16; 28])
     requires { (decoded words.old).controller.transfer.position + 1 < 65536 }
     ensures { decoded words.new ≡ at_position (decoded words.old) ((decoded words.old).controller.transfer.position + 1) }
 {
-    let all = *words;
-    *words = advanced(all);
+    words[14] += 1;
 }

@@ -3,12 +3,10 @@
 use Rattle.std.specs.Prelude.{List, ℕ, get_or, if◌then◌else◌}
 use Rattle.laws.specs.Bytes.{pair}
 use Rattle.sector.specs.declared.Address.{Address}
-use Rattle.reply.specs.Reply.{refusal, answer}
-use Rattle.reply.specs.declared.Reply.{Reply}
-use Rattle.sector.specs.declared.Judged.{Judged}
+use Rattle.reply.specs.Reply.{Reply, refusal, answer}
 use Rattle.sector.specs.declared.Subheader.{Subheader}
 use Rattle.sector.specs.Address.{valid, next}
-use Rattle.sector.specs.Calls.{seal_reply, open_reply, judge_answer, parity_reply}
+use Rattle.sector.specs.Calls.{Judged, seal_reply, open_reply, judge_answer, parity_reply}
 use Rattle.sector.specs.Judge.{why}
 use Rattle.script.specs.Bench.{Left, started}
 use Rattle.script.specs.Feed.{fed_text}

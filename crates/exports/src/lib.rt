@@ -12,7 +12,8 @@ ghost use Rattle.edc.specs.Edc.{edc};
 ghost use Rattle.sector.specs.Calls.{seal_sector, open_sector, no_subheader};
 ghost use Rattle.exports.specs.Words.{at, subheader_in, seal_word, open_word, judge_word, parity_word, next_address_word, bench_run};
 
-use answer::{at, packed, packed_address};
+use answer::{at, packed, packed_address, packed_done};
+use reply::Refusal;
 use script::Bench;
 use sector::Subheader;
 
@@ -23,14 +24,8 @@ pub extern "C" fn cdrom_seal(sector: &mut [u8], minute: u16, second: u16, frame:
     ensures { (result ≡ seal_word sector.old (at minute second frame) 1 no_subheader)
         × (sector.new ≡ seal_sector sector.old (at minute second frame) 1 no_subheader) }
 {
-    let subheader = Subheader {
-        file: 0,
-        channel: 0,
-        submode: 0,
-        coding: 0,
-    };
-    let sealed = sector::seal(sector, at(minute, second, frame), 1, subheader);
-    packed(sealed.number, sealed.result)
+    let address = at(minute, second, frame);
+    packed_done(sector::seal(sector, address, 1, Subheader::default()))
 }
 
 // Seals a buffer at an address where it lies, as a sector of the kind, in mode 2 with the subheader.
@@ -47,14 +42,15 @@ pub extern "C" fn cdrom_seal_xa(
     ensures { (result ≡ seal_word sector.old (at minute second frame) kind (subheader_in subheader.now))
         × (sector.new ≡ seal_sector sector.old (at minute second frame) kind (subheader_in subheader.now)) }
 {
-    let bytes = Subheader {
-        file: subheader[0],
-        channel: subheader[1],
-        submode: subheader[2],
-        coding: subheader[3],
+    let address = at(minute, second, frame);
+    let [file, channel, submode, coding] = *subheader;
+    let subheader = Subheader {
+        file,
+        channel,
+        submode,
+        coding,
     };
-    let sealed = sector::seal(sector, at(minute, second, frame), kind, bytes);
-    packed(sealed.number, sealed.result)
+    packed_done(sector::seal(sector, address, kind, subheader))
 }
 
 // Descrambles a sector where it lies.
@@ -63,8 +59,7 @@ pub extern "C" fn cdrom_seal_xa(
 pub extern "C" fn cdrom_open(sector: &mut [u8]) -> u32
     ensures { (result ≡ open_word sector.old) × (sector.new ≡ open_sector sector.old) }
 {
-    let opened = sector::open(sector);
-    packed(opened.number, opened.result)
+    packed_done(sector::open(sector))
 }
 
 // Judges an opened sector against the address that is expected of it.
@@ -73,9 +68,8 @@ pub extern "C" fn cdrom_open(sector: &mut [u8]) -> u32
 pub extern "C" fn cdrom_judge(sector: &[u8], minute: u16, second: u16, frame: u16) -> u32
     ensures { result ≡ judge_word sector.now (at minute second frame) }
 {
-    let judged = sector::judge(sector, at(minute, second, frame));
-    let judgement = judged.judgement;
-    packed(judged.number, judgement.why())
+    let address = at(minute, second, frame);
+    packed(sector::judge(sector, address).map(|judgement| judgement.why()))
 }
 
 // Checks the parity of an opened sector.
@@ -84,19 +78,19 @@ pub extern "C" fn cdrom_judge(sector: &[u8], minute: u16, second: u16, frame: u1
 pub extern "C" fn cdrom_parity(sector: &[u8]) -> u32
     ensures { result ≡ parity_word sector.now }
 {
-    let checked = sector::check_parity(sector);
-    packed(checked.number, checked.result)
+    packed(sector::check_parity(sector).map(|holds| u16::from(holds)))
 }
 
 // The address that follows an address.
 // Ruled out: one that goes on from an address that there is not, and one that answers the second in the frame's place.
 #[unsafe(no_mangle)]
+#[tactic(auto, using(sector::proofs::Addresses::next_valid))]
 pub extern "C" fn cdrom_next_address(minute: u16, second: u16, frame: u16) -> u32
     ensures { result ≡ next_address_word (at minute second frame) }
 {
     let address = at(minute, second, frame);
     if !address.valid() {
-        return packed(3, 0);
+        return packed(Err(Refusal::OutOfRange));
     }
     packed_address(address.next())
 }
@@ -123,6 +117,5 @@ pub extern "C" fn cdrom_bench(
     ensures { record { result = result; memory = memory.new; sector = sector.new; out = out.new }
         ≡ bench_run memory.old sector.old text.now out.old }
 {
-    let fed = script::feed(Bench::start(), memory, sector, text, out);
-    fed.size
+    script::feed(Bench::start(), memory, sector, text, out).size
 }

@@ -3,12 +3,11 @@ ghost use Rattle.std.specs.Prelude.{◌≡◌, length};
 ghost use Rattle.chip.specs.Calls.{sector_told, sector_ring, look_part, word_told};
 ghost use Rattle.encoding.specs.Words.{decoded};
 ghost use Rattle.burst.specs.Burst.{host_words, written};
-ghost use Rattle.exports.specs.Words.{packed};
 ghost use Rattle.exports.specs.Chips.{Answered, WordAnswered, WordsAnswered};
 
-use crate::answer::packed;
-use burst::{ahead, host_words, next_word, refusal};
-use chip::Word;
+use crate::answer::{packed, write_back};
+use burst::{ahead, host_words, next_word};
+use chip::Part;
 use encoding::{advance, decode, encode};
 
 // A sector as it comes from the disc.
@@ -18,15 +17,8 @@ pub extern "C" fn cdrom_chip_sector(chip: &mut [u16; 28], ring: &mut [u8], secto
     ensures answer { Answered (sector_told (decoded chip.old) ring.old sector.now) result chip.old chip.new }
     ensures ring { ring.new ≡ sector_ring (decoded chip.old) ring.old sector.now }
 {
-    let before = decode(chip);
-    let told = before.sector(ring, sector);
-    let reply = told.reply;
-    if reply.number != 0 {
-        return packed(reply.number, reply.result);
-    }
-    let next = told.chip;
-    encode(chip, next);
-    packed(reply.number, reply.result)
+    let told = decode(chip).sector(ring, sector);
+    write_back(chip, told)
 }
 
 // A look: where it lies, and how many bytes it has.
@@ -35,31 +27,24 @@ pub extern "C" fn cdrom_chip_sector(chip: &mut [u16; 28], ring: &mut [u8], secto
 pub extern "C" fn cdrom_chip_look(chip: &[u16; 28], ring: &[u8], offset: &mut usize) -> usize
     ensures { record { start = offset.new; size = result } ≡ look_part (decoded chip.now) ring.now }
 {
-    let now = decode(chip);
-    let part = now.look_part(ring);
-    *offset = part.start;
-    part.size
+    let Part { start, size } = decode(chip).look_part(ring);
+    *offset = start;
+    size
 }
 
 // The host reads a word. Before a block's last one only the position changes, so that the record need not be written whole.
 // Ruled out: one that serves the word after it, and one that moves on where it refuses.
 #[unsafe(no_mangle)]
+#[tactic(auto, using(crate::proofs::Chips::position_small))]
 pub extern "C" fn cdrom_chip_word(chip: &mut [u16; 28], ring: &[u8]) -> u32
     ensures { WordAnswered (word_told (decoded chip.old) ring.now) result chip.old chip.new }
 {
     let before = decode(chip);
     if ahead(before, ring) != 0 {
         advance(chip);
-        return packed(0, next_word(before, ring));
+        return packed(Ok(next_word(before, ring)));
     }
-    let told = before.host_word(ring);
-    let word = told.word;
-    let next = told.chip;
-    let Word::Handed(w) = word else {
-        return packed(refusal(word), 0);
-    };
-    encode(chip, next);
-    packed(0, w)
+    write_back(chip, before.host_word(ring))
 }
 
 // The host reads as many words as there is room for, until one is refused.
@@ -74,13 +59,11 @@ pub extern "C" fn cdrom_chip_words(
     ensures answer { WordsAnswered (host_words (length words.old) (decoded chip.old) ring.now) result handed.new chip.old chip.new }
     ensures words { words.new ≡ written (host_words (length words.old) (decoded chip.old) ring.now) words.old }
 {
-    let before = decode(chip);
-    let burst = host_words(before, ring, words);
+    let burst = host_words(decode(chip), ring, words);
     *handed = burst.handed;
     if burst.handed == 0 {
-        return packed(burst.number, 0);
+        return burst.refusal.map_or(0, |refusal| packed(Err(refusal)));
     }
-    let next = burst.chip;
-    encode(chip, next);
+    encode(chip, burst.chip);
     0
 }

@@ -9,24 +9,16 @@ ghost use Rattle.encoding.specs.Words.{decoded};
 ghost use Rattle.exports.specs.Words.{at, reply_word};
 ghost use Rattle.exports.specs.Chips.{Answered};
 
-use crate::answer::{at, packed};
+use crate::answer::{at, packed, write_back};
 use calls::Call;
 use chip::Chip;
 use encoding::{decode, encode};
-use numbers::weight;
 
 fn plain(chip: &mut [u16; 28], call: Call) -> u32
     ensures { Answered (called (decoded chip.old) call) result chip.old chip.new }
 {
-    let before = decode(chip);
-    let told = before.call(call);
-    let reply = told.reply;
-    if reply.number != 0 {
-        return packed(reply.number, reply.result);
-    }
-    let next = told.chip;
-    encode(chip, next);
-    packed(reply.number, reply.result)
+    let told = decode(chip).call(call);
+    write_back(chip, told)
 }
 
 // A chip of so many blocks; one that is refused is a record of no blocks.
@@ -35,11 +27,16 @@ fn plain(chip: &mut [u16; 28], call: Call) -> u32
 pub extern "C" fn cdrom_chip_open(chip: &mut [u16; 28], blocks: u16) -> u32
     ensures { (result ≡ reply_word (opened blocks).reply) × (decoded chip.new ≡ (opened blocks).chip) }
 {
-    let told = Chip::open(blocks);
-    let reply = told.reply;
-    let first = told.chip;
-    encode(chip, first);
-    packed(reply.number, reply.result)
+    match Chip::open(blocks) {
+        Ok(opened) => {
+            encode(chip, opened);
+            packed(Ok(0))
+        }
+        Err(refusal) => {
+            encode(chip, Chip::closed());
+            packed(Err(refusal))
+        }
+    }
 }
 
 // Writes a register.
@@ -89,7 +86,8 @@ pub extern "C" fn cdrom_chip_set_expected(
 ) -> u32
     ensures { Answered (called (decoded chip.old) (SetExpected (at minute second frame))) result chip.old chip.new }
 {
-    plain(chip, Call::SetExpected(at(minute, second, frame)))
+    let address = at(minute, second, frame);
+    plain(chip, Call::SetExpected(address))
 }
 
 // A byte of the full packet.
@@ -152,10 +150,7 @@ pub extern "C" fn cdrom_chip_srst(chip: &mut [u16; 28]) -> u32
 pub extern "C" fn cdrom_chip_why(chip: &[u16; 28]) -> u32
     ensures { result ≡ why (decoded chip.now).controller.judgement }
 {
-    let now = decode(chip);
-    let controller = now.controller;
-    let judgement = controller.judgement;
-    judgement.why() as u32
+    u32::from(decode(chip).controller.judgement.why())
 }
 
 // The interrupt line to the host.
@@ -164,7 +159,5 @@ pub extern "C" fn cdrom_chip_why(chip: &[u16; 28]) -> u32
 pub extern "C" fn cdrom_chip_irq(chip: &[u16; 28]) -> u32
     ensures { result ≡ weight (decoded chip.now).controller.hirq 1 }
 {
-    let now = decode(chip);
-    let controller = now.controller;
-    weight(controller.hirq, 1) as u32
+    u32::from(decode(chip).controller.hirq)
 }

@@ -1,6 +1,6 @@
 -- A loop that writes a list from the front, each element read before it is written: what is done, and what is as it was.
 -- Assumes nothing.
-use mathlib.Core.Path.{◌≡◌, refl, ap, ◌∙◌, sym}
+use mathlib.Core.Path.{◌≡◌, ap, ◌∙◌, sym}
 use mathlib.Core.List.{List}
 use Prim.Native.Nat.{ℕ, ◌+◌, ◌<◌, ◌≤◌}
 use native.Mathlib.Omega.{arith}
@@ -13,9 +13,6 @@ pub record Mapped (f : ℕ → ℕ) (l : List ℕ) (v : ℕ) (l' : List ℕ) : T
   pub size : length l' ≡ length l
   pub done : (u : ℕ) → u < v → get_or l' u 0 ≡ f u
   pub rest : (u : ℕ) → v ≤ u → get_or l' u 0 ≡ get_or l u 0
-
-pub mapped_none : (f : ℕ → ℕ) (l : List ℕ) → Mapped f l 0 l
-mapped_none f l = record { size = refl; done = λ u h. absurd (omega arith); rest = λ u h. refl }
 
 pub mapped_more : (f : ℕ → ℕ) (l l' : List ℕ) (v x : ℕ) → Mapped f l v l' → v < length l' → x ≡ f v → Mapped f l (v + 1) (set l' v x)
 mapped_more f l l' v x m h e =

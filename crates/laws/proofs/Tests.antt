@@ -31,9 +31,6 @@ and4 a b c d h =
 pub true3 : (a b c : Bool) → a ≡ true → b ≡ true → c ≡ true → (a && b && c) ≡ true
 true3 a b c p q r = simp (p, q, r)
 
-pub true4 : (a b c d : Bool) → a ≡ true → b ≡ true → c ≡ true → d ≡ true → (a && b && c && d) ≡ true
-true4 a b c d p q r s = simp (p, q, r, s)
-
 pub or_true : (a b : Bool) → (a || b) ≡ true → (a ≡ true) ⊎ (b ≡ true)
 or_true true b h = inl refl
 or_true false b h = inr h

@@ -22,12 +22,11 @@ use Rattle.controller.specs.Host.{data_ended, ended, block_taken, host_word, pac
 use Rattle.controller.specs.Named.{set_block, window_fits, set_window, set_expected, packet_byte, reset}
 use Rattle.controller.specs.Read.{read}
 use Rattle.controller.specs.State.{initial}
-use Rattle.controller.specs.Step.{replied, guarded}
+use Rattle.controller.specs.Step.{Step, replied, guarded}
 use Rattle.controller.specs.Transfer.{engaged, completed}
 use Rattle.controller.specs.declared.state.Controller.{Controller}
 use Rattle.controller.specs.declared.step.Event.TheVariants.{Stay, Advance, Move, Clear}
 use Rattle.controller.specs.declared.step.RingFacts.{RingFacts}
-use Rattle.controller.specs.declared.step.Step.{Step}
 use Rattle.outcomes.specs.Book.{book_of, fed, row≔, k≔}
 use Rattle.outcomes.specs.Invariant.{Running, Consistent}
 use Rattle.outcomes.specs.Machine.{plain, word}
@@ -48,12 +47,6 @@ consistent_ended c q h = consistent_quiet c (ended c) q (sym (ended_same c)) h
 
 ended_book : (c : Controller) (row : List (List ℕ)) → book_of (ended c) row ≡ book_of c row
 ended_book c row = ap (λ (x : Controller). book_of x row) (ended_same c)
-
-ended_counts : (c : Controller) → (ended c).counts ≡ c.counts
-ended_counts c = ap (λ (x : Controller). x.counts) (ended_same c)
-
-ended_buffering : (c : Controller) → (ended c).buffering ≡ c.buffering
-ended_buffering c = ap (λ (x : Controller). x.buffering) (ended_same c)
 
 no_row : (row : List (List ℕ)) → length row ≡ 0 → row ≡ []
 no_row row e = drop_of_length-le row (le_of_eq e)

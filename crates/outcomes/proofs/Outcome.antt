@@ -9,13 +9,12 @@ use lib.ListN.{length}
 use borrow.Author.Tests.{ltb-true, ne_eqb}
 use Rattle.laws.specs.Numbers.{weight}
 use Rattle.laws.proofs.Choice.{if_case, if_false, left_true, right_true}
-use Rattle.controller.specs.Step.{refused, replied, guarded}
+use Rattle.controller.specs.Step.{Step, refused, replied, guarded}
 use Rattle.controller.specs.Transfer.{engaged, settled, concluded}
 use Rattle.controller.specs.declared.state.Controller.{Controller}
 use Rattle.controller.specs.declared.state.Counts.{Counts}
 use Rattle.controller.specs.declared.step.Event.{Event}
 use Rattle.controller.specs.declared.step.Event.TheVariants.{Stay, Store, Advance, Rewind, Move, Clear}
-use Rattle.controller.specs.declared.step.Step.{Step}
 use Rattle.outcomes.specs.Book.{book_of, fed, limited}
 use Rattle.outcomes.specs.Invariant.{Consistent, Invariant, Moves, moved, Lands}
 use Rattle.outcomes.specs.Machine.{Call}

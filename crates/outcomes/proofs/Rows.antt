@@ -15,6 +15,7 @@ use Rattle.calls.specs.declared.Call.{Call as Plain}
 use Rattle.calls.specs.declared.Call.TheVariants.{Write, Read, SetBlock, SetWindow, SetExpected, PacketByte, Reset, Command, PacketWord, Status, Srst}
 use Rattle.sector.specs.Judge.{good}
 use Rattle.sector.specs.Receive.{received}
+use Rattle.controller.specs.Step.{Step}
 use Rattle.controller.specs.Bits.{bit}
 use Rattle.controller.specs.Decoder.{admission}
 use Rattle.controller.specs.State.{initial}
@@ -22,7 +23,6 @@ use Rattle.controller.specs.Transfer.{concluded}
 use Rattle.controller.specs.declared.state.Controller.{Controller}
 use Rattle.controller.specs.declared.step.Event.{Event}
 use Rattle.controller.specs.declared.step.Event.TheVariants.{Stay, Store, Advance, Rewind, Move, Clear}
-use Rattle.controller.specs.declared.step.Step.{Step}
 use Rattle.outcomes.specs.Book.{Book, fed, feed, limited}
 use Rattle.outcomes.specs.Invariant.{Consistent, Invariant, Moves, moved, Lands}
 use Rattle.outcomes.specs.Machine.{Call, plain, sector, look, word, Answer, replied, number}

@@ -12,10 +12,9 @@ use Rattle.laws.proofs.Choice.{if_case, if_false, right_false}
 use Rattle.laws.proofs.Tests.{clash, and3, and4, or_false, if_not}
 use Rattle.controller.specs.Fields.{◌▹◌, mbc≔, atint≔, atblo≔, atbhi≔, drq≔, bsy≔, hirq≔, transfer≔}
 use Rattle.controller.specs.State.{initial}
-use Rattle.controller.specs.Step.{refused, done}
+use Rattle.controller.specs.Step.{Step, refused, done}
 use Rattle.controller.specs.Transfer.{engaged, start_switches, limit, blocks_asked, start_blocks, blocks_lacking, byte_count, begun, started, start, settled}
 use Rattle.controller.specs.declared.state.Controller.{Controller}
-use Rattle.controller.specs.declared.step.Step.{Step}
 use Rattle.controller.proofs.Starts.{windowed, some, enough}
 use Rattle.outcomes.specs.Book.{Book, book_of, k≔}
 use Rattle.outcomes.specs.Invariant.{Consistent, Invariant}

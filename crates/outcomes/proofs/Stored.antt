@@ -13,12 +13,12 @@ use Rattle.sector.specs.Judge.{good}
 use Rattle.sector.specs.Receive.{received}
 use Rattle.sector.specs.declared.Judgement.{Judgement}
 use Rattle.sector.proofs.Claims.{next_holds}
+use Rattle.controller.specs.Step.{Step}
 use Rattle.controller.specs.Decoder.{at_stop, admission, counted}
 use Rattle.controller.specs.Fields.{◌▹◌}
 use Rattle.controller.specs.Transfer.{concluded, settled}
 use Rattle.controller.specs.declared.state.Controller.{Controller}
 use Rattle.controller.specs.declared.step.Event.TheVariants.{Store}
-use Rattle.controller.specs.declared.step.Step.{Step}
 use Rattle.outcomes.specs.Book.{book_of, row≔, takes, judged, joined, fed}
 use Rattle.outcomes.specs.Invariant.{Consistent, Invariant}
 use Rattle.outcomes.specs.Machine.{sector}

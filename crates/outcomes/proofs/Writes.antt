@@ -14,11 +14,10 @@ use Rattle.laws.proofs.Tests.{clash, contra, if_not, weightless}
 use Rattle.calls.specs.declared.Call.TheVariants.{Write}
 use Rattle.controller.specs.Bits.{bit, only, differs}
 use Rattle.controller.specs.Fields.{◌▹◌, task≔}
-use Rattle.controller.specs.Step.{guarded}
+use Rattle.controller.specs.Step.{Step, guarded}
 use Rattle.controller.specs.Transfer.{engaged, start_switches, blocks_lacking, started, start}
 use Rattle.controller.specs.Write.{write_tack, decoder_off, write_ctrl0, write_mbtc0, write_astrg, write_asctrl, with_task, write_task, write_atsta, write_apksta, write_ascsta, write_bicctl, write_buflim, acctl_of, write_acctl, write_tcc, write_skipc, write_ttc, write}
 use Rattle.controller.specs.declared.state.Controller.{Controller}
-use Rattle.controller.specs.declared.step.Step.{Step}
 use Rattle.controller.specs.declared.step.Event.TheVariants.{Advance, Rewind}
 use Rattle.outcomes.specs.Book.{Book, book_of, fed, limited}
 use Rattle.outcomes.specs.Invariant.{Consistent}

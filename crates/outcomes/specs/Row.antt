@@ -5,6 +5,7 @@ use Rattle.laws.specs.Bytes.{word_at}
 use Rattle.calls.specs.declared.Call.{Call as Plain}
 use Rattle.sector.specs.Judge.{good}
 use Rattle.sector.specs.Receive.{received}
+use Rattle.controller.specs.Step.{Step}
 use Rattle.controller.specs.Calls.{stepped}
 use Rattle.controller.specs.Decoder.{admission, counted}
 use Rattle.controller.specs.Host.{host_word}
@@ -12,7 +13,6 @@ use Rattle.controller.specs.State.{initial}
 use Rattle.controller.specs.Transfer.{concluded}
 use Rattle.controller.specs.declared.state.Controller.{Controller}
 use Rattle.controller.specs.declared.step.RingFacts.{RingFacts}
-use Rattle.controller.specs.declared.step.Step.{Step}
 use Rattle.outcomes.specs.Book.{Book, book_of, facts_of}
 use Rattle.outcomes.specs.Invariant.{Invariant, moved}
 use Rattle.outcomes.specs.Machine.{Call, plain, sector, look, word, Answer, replied, handed, refused, seen, Machine}

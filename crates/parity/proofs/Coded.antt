@@ -2,15 +2,15 @@
 -- for Q. Assumes nothing.
 use mathlib.Core.Path.{◌≡◌, sym, ap, ap₂, ◌∙◌}
 use mathlib.Core.Bool.{Bool, ◌&&◌}
-use mathlib.Core.List.{List, ◌++◌, append_assoc}
+use mathlib.Core.List.{List, ◌++◌}
 use Prim.Native.Nat.{ℕ, suc, ◌+◌, ◌*◌, ◌-◌, ◌/◌, ◌%◌, ◌<◌, ◌≤◌}
 use native.Mathlib.Numerals.{add-one}
 use native.Mathlib.Omega.{arith}
 use native.Mathlib.Decide.{dec_lt}
 use lib.Bits.{bit_xor}
 use lib.Dec.{eqb}
-use lib.ListN.{length, get_or, take, drop, length-append, length-drop}
-use lib.Seq.{get_or-take, take_at, length-take-le}
+use lib.ListN.{length, get_or, take, drop, length-append}
+use lib.Seq.{get_or-take, get_or-drop}
 use Rattle.laws.specs.Bytes.{Bytes}
 use Rattle.laws.specs.Listed.{listed, all_below}
 use Rattle.laws.proofs.Listed.{length_listed, getD_listed, listed_same, below_same}
@@ -18,8 +18,8 @@ use Rattle.laws.proofs.Window.{get_d_window}
 use Rattle.parity.specs.Field.{times_x, product, power}
 use Rattle.parity.specs.Word.{sum, holds, first_parity, second_parity}
 use Rattle.parity.specs.Layout.{Code, p, q, place, value_at, word}
-use Rattle.parity.specs.Parity.{parity_bytes, coded, with_parity, code_holds}
-use Rattle.parity.specs.Rows.{horner, view, Sums, Summed, p_lane, q_lane, in_word_order, first_of_sums, firsts, seconds, fits, all_fit}
+use Rattle.parity.specs.Parity.{parity_bytes, code_holds}
+use Rattle.parity.specs.Rows.{horner, view, AreSums, Summed, p_lane, q_lane, in_word_order, first_of_sums, firsts, seconds, fits, all_fit}
 use Rattle.parity.proofs.WordLaws.{Symbols, sum_next, horner_next, sum_same, horner_same, holds_sums, first_same, second_same, weighted_data, second_of}
 use Rattle.parity.proofs.RowLaws.{view_first, view_other}
 use Rattle.parity.proofs.Places.{p_place, q_place, q_tail, p_inside, q_inside, value_at_outside, value_at_byte, value_at_same}
@@ -55,16 +55,19 @@ module _ (c : Code) (z : Bool) (s a b : List ℕ) (bytes : Bytes s) (m : Summed 
         ∙ sym (second_of c.data_size (word c z s v) (word_bytes c z s v bytes))
         ∙ second_same c.data_size (word c z s v) (word c z d v) (λ i k. same v i h k)
 
-    pub firsts_are : firsts a b ≡ listed (2 * c.words) (λ v. first_parity c.data_size (word c z d v))
+    firsts_are : firsts a b ≡ listed (2 * c.words) (λ v. first_parity c.data_size (word c z d v))
     firsts_are =
         ap (λ (n : ℕ). listed n (λ v. first_of_sums (get_or a v 0) (get_or b v 0))) m.size_a
         ∙ listed_same (2 * c.words) (λ v. first_of_sums (get_or a v 0) (get_or b v 0)) (λ v. first_parity c.data_size (word c z d v)) first_at
 
-    pub seconds_are : seconds a b ≡ listed (2 * c.words) (λ v. second_parity c.data_size (word c z d v))
+    seconds_are : seconds a b ≡ listed (2 * c.words) (λ v. second_parity c.data_size (word c z d v))
     seconds_are =
         ap (λ (n : ℕ). listed n (λ v. bit_xor (first_of_sums (get_or a v 0) (get_or b v 0)) (get_or a v 0))) m.size_a
         ∙ listed_same (2 * c.words) (λ v. bit_xor (first_of_sums (get_or a v 0) (get_or b v 0)) (get_or a v 0))
         (λ v. second_parity c.data_size (word c z d v)) second_at
+
+    pub parity_is : firsts a b ++ seconds a b ≡ parity_bytes c z d
+    parity_is = ap₂ (λ (x y : List ℕ). x ++ y) firsts_are seconds_are
 
   -- the test: x and y are the two parity symbols of each word
   pub all_fit_is : (x y : List ℕ)
@@ -107,7 +110,7 @@ module _ (z : Bool) (s first a b : List ℕ) (e : first ≡ listed 86 (λ i. val
   p_symbol : (v m : ℕ) → p_lane (view first s) v m ≡ word p z s v m
   p_symbol v m = value_at_by (12 + 86 * m + v) (omega arith) ∙ ap (value_at z s) (sym (p_place v m))
 
-  pub p_summed : Sums (p_lane (view first s)) (λ u. 24) 86 a b → Summed p z s a b
+  pub p_summed : AreSums (p_lane (view first s)) (λ u. 24) 86 a b → Summed p z s a b
   unfolding p
   p_summed t =
       record {
@@ -128,7 +131,7 @@ module _ (z : Bool) (s first a b : List ℕ) (e : first ≡ listed 86 (λ i. val
       value_at_by (12 + 86 * ((25 - turn v / 2 + m) % 26) + 2 * m + turn v % 2) (omega arith)
       ∙ ap₂ (λ (x y : ℕ). value_at z s (12 + 86 * ((x + m) % 26) + 2 * m + y)) half odd ∙ ap (value_at z s) (sym (q_place v m h k))
 
-  pub q_summed : (c d : List ℕ) → c ≡ in_word_order a → d ≡ in_word_order b → Sums (q_lane (view first s)) (λ u. 43) 52 a b → Summed q z s c d
+  pub q_summed : (c d : List ℕ) → c ≡ in_word_order a → d ≡ in_word_order b → AreSums (q_lane (view first s)) (λ u. 43) 52 a b → Summed q z s c d
   unfolding q
   q_summed c d ec ed t =
       record {
@@ -140,22 +143,29 @@ module _ (z : Bool) (s first a b : List ℕ) (e : first ≡ listed 86 (λ i. val
             ∙ horner_same 43 (q_lane (view first s) (turn v)) (word q z s v) (λ i k. q_symbol v i h k);
       }
 
--- the parity symbols, where they stand
-behind : (c : Code) (z : Bool) (s : List ℕ) (base n v m : ℕ) → v < n → 16 ≤ base → place c v m ≡ base + v
-    → get_or (take n (drop base s)) v 0 ≡ word c z s v m
-behind c z s base n v m h l e = get_d_window base n v 0 s h ∙ sym (value_at_outside z s (base + v) (omega arith)) ∙ ap (value_at z s) (sym e)
+-- the parity symbols, where they stand: the first ones of all words, and behind them the second ones
+module _ (c : Code) (z : Bool) (s : List ℕ) (base n v m : ℕ) (h : v < n) (l : 16 ≤ base) where
+  first_behind : place c v m ≡ base + v → get_or (take n (take (n + n) (drop base s))) v 0 ≡ word c z s v m
+  first_behind e =
+      get_or-take n (take (n + n) (drop base s)) v 0 h ∙ get_d_window base (n + n) v 0 s (omega arith)
+      ∙ sym (value_at_outside z s (base + v) (omega arith)) ∙ ap (value_at z s) (sym e)
 
-pub p_first : (z : Bool) (s : List ℕ) (v : ℕ) → v < 86 → get_or (take 86 (drop 2076 s)) v 0 ≡ word p z s v 24
-p_first z s v h = behind p z s 2076 86 v 24 h (omega arith) (p_place v 24 ∙ omega arith)
+  second_behind : place c v m ≡ base + (n + v) → get_or (drop n (take (n + n) (drop base s))) v 0 ≡ word c z s v m
+  second_behind e =
+      get_or-drop n (take (n + n) (drop base s)) v 0 ∙ get_d_window base (n + n) (n + v) 0 s (omega arith)
+      ∙ sym (value_at_outside z s (base + (n + v)) (omega arith)) ∙ ap (value_at z s) (sym e)
 
-pub p_second : (z : Bool) (s : List ℕ) (v : ℕ) → v < 86 → get_or (take 86 (drop 2162 s)) v 0 ≡ word p z s v 25
-p_second z s v h = behind p z s 2162 86 v 25 h (omega arith) (p_place v 25 ∙ omega arith)
+pub p_first : (z : Bool) (s : List ℕ) (v : ℕ) → v < 86 → get_or (take 86 (take 172 (drop 2076 s))) v 0 ≡ word p z s v 24
+p_first z s v h = first_behind p z s 2076 86 v 24 h (omega arith) (p_place v 24 ∙ omega arith)
 
-pub q_first : (z : Bool) (s : List ℕ) (v : ℕ) → v < 52 → get_or (take 52 (drop 2248 s)) v 0 ≡ word q z s v 43
-q_first z s v h = behind q z s 2248 52 v 43 h (omega arith) (q_tail v 43 (omega arith) ∙ omega arith)
+pub p_second : (z : Bool) (s : List ℕ) (v : ℕ) → v < 86 → get_or (drop 86 (take 172 (drop 2076 s))) v 0 ≡ word p z s v 25
+p_second z s v h = second_behind p z s 2076 86 v 25 h (omega arith) (p_place v 25 ∙ omega arith)
 
-pub q_second : (z : Bool) (s : List ℕ) (v : ℕ) → v < 52 → get_or (take 52 (drop 2300 s)) v 0 ≡ word q z s v 44
-q_second z s v h = behind q z s 2300 52 v 44 h (omega arith) (q_tail v 44 (omega arith) ∙ omega arith)
+pub q_first : (z : Bool) (s : List ℕ) (v : ℕ) → v < 52 → get_or (take 52 (take 104 (drop 2248 s))) v 0 ≡ word q z s v 43
+q_first z s v h = first_behind q z s 2248 52 v 43 h (omega arith) (q_tail v 43 (omega arith) ∙ omega arith)
+
+pub q_second : (z : Bool) (s : List ℕ) (v : ℕ) → v < 52 → get_or (drop 52 (take 104 (drop 2248 s))) v 0 ≡ word q z s v 44
+q_second z s v h = second_behind q z s 2248 52 v 44 h (omega arith) (q_tail v 44 (omega arith) ∙ omega arith)
 
 -- a word's data lies in the front of the sector
 pub p_front : (z : Bool) (s : List ℕ) (v i : ℕ) → v < 86 → i < 24 → word p z s v i ≡ word p z (take 2076 s) v i
@@ -171,25 +181,3 @@ length_parity c z d =
     length-append (listed (2 * c.words) (λ v. first_parity c.data_size (word c z d v))) (listed (2 * c.words) (λ v. second_parity c.data_size (word c z d v)))
     ∙ ap₂ (λ (x y : ℕ). x + y) (length_listed (2 * c.words) (λ v. first_parity c.data_size (word c z d v)))
     (length_listed (2 * c.words) (λ v. second_parity c.data_size (word c z d v)))
-
-length_p : (z : Bool) (d : List ℕ) → length d ≡ 2076 → length (coded p z d) ≡ 2248
-unfolding p
-length_p z d h = length-append d (parity_bytes p z d) ∙ ap₂ (λ (x y : ℕ). x + y) h (length_parity p z d)
-
--- a sector, with P written behind its data and then Q
-pub written : (z : Bool) (s s₁ s₂ : List ℕ) → length s ≡ 2352 → s₁ ≡ take 2076 s ++ (parity_bytes p z (take 2076 s) ++ drop 2248 s)
-    → s₂ ≡ coded q z (take 2248 s₁) → s₂ ≡ with_parity z (take 2076 s)
-unfolding with_parity
-written z s s₁ s₂ size e f =
-    f ∙ ap (coded q z)
-    (ap (take 2248) (e ∙ sym (append_assoc (take 2076 s) (parity_bytes p z (take 2076 s)) (drop 2248 s)))
-    ∙ take_at (coded p z (take 2076 s)) (drop 2248 s) 2248 (length_p z (take 2076 s) (length-take-le 2076 s (omega arith))))
-
--- it has as many bytes as before
-pub length_written : (z : Bool) (s : List ℕ) → length s ≡ 2352 → length (take 2076 s ++ (parity_bytes p z (take 2076 s) ++ drop 2248 s)) ≡ 2352
-unfolding p
-length_written z s size =
-    length-append (take 2076 s) (parity_bytes p z (take 2076 s) ++ drop 2248 s)
-    ∙ ap₂ (λ (x y : ℕ). x + y) (length-take-le 2076 s (omega arith))
-    (length-append (parity_bytes p z (take 2076 s)) (drop 2248 s) ∙ ap₂ (λ (x y : ℕ). x + y) (length_parity p z (take 2076 s)) (length-drop 2248 s))
-    ∙ omega arith

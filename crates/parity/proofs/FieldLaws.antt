@@ -96,10 +96,6 @@ unfolding product_bits
 product_two a =
     ap₂ bit_xor (zero-mul a) (ap₂ bit_xor (one-mul (times_x a)) (product_zero_r 6 (times_x (times_x a))) ∙ xor_zero_r (times_x a)) ∙ xor_zero_l (times_x a)
 
-pub product_one_r : (a : ℕ) → product a 1 ≡ a
-unfolding product_bits
-product_one_r a = ap₂ bit_xor (one-mul a) (product_zero_r 7 (times_x a)) ∙ xor_zero_r a
-
 -- n times in a row: the product with power n, as Powers.antt shows
 unfoldable pub scaled : ℕ → ℕ → ℕ
 scaled zero a = a

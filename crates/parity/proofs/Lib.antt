@@ -9,5 +9,6 @@ pub mod Places
 pub mod Coded
 pub mod First
 pub mod Validity
+pub mod Written
 pub mod Change
 pub mod Claims

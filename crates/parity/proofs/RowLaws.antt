@@ -6,11 +6,14 @@ use Prim.Native.Nat.{ℕ, suc, ◌+◌, ◌*◌, ◌-◌, ◌/◌, ◌%◌, ◌<
 use native.Mathlib.Numerals.{add-one}
 use native.Mathlib.Omega.{arith}
 use lib.Dec.{ltb}
-use lib.ListN.{get_or}
+use lib.ListN.{length, get_or, take, drop}
 use borrow.Author.Tests.{lt-ltb, le-ltb}
+use Rattle.laws.specs.Listed.{listed}
 use Rattle.laws.proofs.Choice.{if_true, if_false}
-use Rattle.parity.specs.Rows.{view, Taken, Sums, p_lane, q_lane, met}
-use Rattle.parity.proofs.Lanes.{sums_more}
+use Rattle.laws.proofs.Listed.{length_listed, getD_listed, listed_of}
+use Rattle.laws.proofs.Window.{length_window, get_d_window}
+use Rattle.parity.specs.Rows.{view, Taken, AreSums, p_lane, q_lane, met}
+use Rattle.parity.proofs.Lanes.{taken_as, sums_more}
 
 -- the first row, and the others
 pub view_first : (first s : List ℕ) (k : ℕ) → k < 86 → view first s (12 + k) ≡ get_or first k 0
@@ -21,23 +24,36 @@ view_first first s k h =
 pub view_other : (first s : List ℕ) (k : ℕ) → 98 ≤ k → view first s k ≡ get_or s k 0
 view_other first s k h = if_false (ltb k 98) (get_or first (k - 12) 0) (get_or s k 0) (le-ltb k 98 h)
 
-pub row_first : (first s : List ℕ) (row p u : ℕ) → row ≡ 0 → p + u < 86 → get_or first (p + u) 0 ≡ view first s (12 + 86 * row + p + u)
-row_first first s row p u e h =
-    let place : 12 + (p + u) ≡ 12 + 86 * row + p + u = omega arith in
-    sym (view_first first s (p + u) h) ∙ ap (view first s) place
+-- the rows, as they are read
+pub row_first : (first s : List ℕ) (i : ℕ) → i ≡ 0 → length first ≡ 86 → first ≡ listed 86 (λ u. view first s (12 + 86 * i + u))
+row_first first s i e size =
+    listed_of 86 (λ u. view first s (12 + 86 * i + u)) first size
+    (λ u h.
+    let place : 12 + u ≡ 12 + 86 * i + u = omega arith in
+    sym (view_first first s u h) ∙ ap (view first s) place)
 
-pub row_other : (first s : List ℕ) (row p u : ℕ) → (row ≡ 0 → ⊥) → get_or s (12 + 86 * row + p + u) 0 ≡ view first s (12 + 86 * row + p + u)
-row_other first s row p u n = sym (view_other first s (12 + 86 * row + p + u) (omega arith))
+pub row_other : (first s : List ℕ) (i : ℕ) → (i ≡ 0 → ⊥) → i < 26 → length s ≡ 2352
+    → take (12 + 86 * i + 86 - (12 + 86 * i)) (drop (12 + 86 * i) s) ≡ listed 86 (λ u. view first s (12 + 86 * i + u))
+row_other first s i n h size =
+    let row : 12 + 86 * i + 86 - (12 + 86 * i) ≡ 86 = omega arith in
+    ap (λ (m : ℕ). take m (drop (12 + 86 * i) s)) row
+    ∙ listed_of 86 (λ u. view first s (12 + 86 * i + u)) (take 86 (drop (12 + 86 * i) s)) (length_window (12 + 86 * i) 86 s (omega arith))
+    (λ u l. get_d_window (12 + 86 * i) 86 u 0 s l ∙ sym (view_other first s (12 + 86 * i + u) (omega arith)))
 
--- P: all words meet each row
-pub p_step : (t : ℕ → ℕ) (i : ℕ) (a b a' b' : List ℕ) → Sums (p_lane t) (λ u. i) 86 a b → Taken (λ u. t (12 + 86 * i + 0 + u)) 0 86 a b a' b'
-    → Sums (p_lane t) (λ u. i + 1) 86 a' b'
-p_step t i a b a' b' m k =
-    sums_more (p_lane t) (λ u. i) (λ u. i + 1) 86 (λ u. t (12 + 86 * i + 0 + u)) 0 86 a b a' b' m k (omega arith)
+-- P: all words meet each row, l
+pub p_step : (t : ℕ → ℕ) (i : ℕ) (l a b a' b' : List ℕ) → l ≡ listed 86 (λ u. t (12 + 86 * i + u)) → AreSums (p_lane t) (λ u. i) 86 a b
+    → Taken (λ u. get_or l u 0) 0 (length l) a b a' b' → AreSums (p_lane t) (λ u. i + 1) 86 a' b'
+p_step t i l a b a' b' e m k =
+    sums_more (p_lane t) (λ u. i) (λ u. i + 1) 86 (λ u. t (12 + 86 * i + u)) 0 86 a b a' b' m
+    (taken_as (λ u. get_or l u 0) (λ u. t (12 + 86 * i + u)) 0 (length l) 86 a b a' b'
+    (ap length e ∙ length_listed 86 (λ u. t (12 + 86 * i + u)))
+    (λ u h. ap (λ (r : List ℕ). get_or r u 0) e ∙ getD_listed 86 (λ u. t (12 + 86 * i + u)) u h)
+    k)
+    (omega arith)
     (λ u h. (add-one i, ap t (place u)))
     (λ u h o. absurd (all u h o))
   where
-    place : (u : ℕ) → 12 + 86 * i + 0 + u ≡ 12 + 86 * i + (0 + u)
+    place : (u : ℕ) → 12 + 86 * i + u ≡ 12 + 86 * i + (0 + u)
     place u = omega arith
 
     all : (u : ℕ) → u < 86 → (u < 0) ⊎ (0 + 86 ≤ u) → ⊥
@@ -112,17 +128,31 @@ module _ (t : ℕ → ℕ) (r row p k n : ℕ) (hr : r < 68) (er : row ≡ r % 2
         joined : (x y z w : ℕ) → x ≡ y → p + u ≡ z + w → 12 + x + p + u ≡ 12 + y + z + w
         joined x y z w e f = omega arith
 
-  pub q_step : (a b a' b' : List ℕ) → Sums (q_lane t) (met r) 52 a b → Taken (λ u. t (12 + 86 * row + p + u)) k n a b a' b'
-      → Sums (q_lane t) (met (r + 1)) 52 a' b'
-  q_step a b a' b' m x =
-      sums_more (q_lane t) (met r) (met (r + 1)) 52 (λ u. t (12 + 86 * row + p + u)) k n a b a' b' m x q_room
+  -- l is the row, and its n bytes from p on are taken in
+  pub q_step : (m : ℕ) (l a b a' b' : List ℕ) → m ≡ n → l ≡ listed 86 (λ u. t (12 + 86 * row + u)) → AreSums (q_lane t) (met r) 52 a b
+      → Taken (λ u. get_or (take m (drop p l)) u 0) k (length (take m (drop p l))) a b a' b' → AreSums (q_lane t) (met (r + 1)) 52 a' b'
+  q_step m l a b a' b' em e s x =
+      sums_more (q_lane t) (met r) (met (r + 1)) 52 (λ u. t (12 + 86 * row + p + u)) k n a b a' b' s
+      (taken_as (λ u. get_or (take m (drop p l)) u 0) (λ u. t (12 + 86 * row + p + u)) k (length (take m (drop p l))) n a b a' b'
+      (ap (λ (i : ℕ). length (take i (drop p l))) em ∙ length_window p n l (omega (arith, size, q_row_room)))
+      (λ u h. ap (λ (i : ℕ). get_or (take i (drop p l)) u 0) em ∙ get_d_window p n u 0 l h ∙ symbol u h)
+      x)
+      q_room
       (λ u h. let l : k + u < 52 = omega (arith, q_room) in (met_next r (k + u) l (begun (k + u) (omega arith)) (going (k + u) (omega arith) l), ap t (place u h)))
       (λ u h. ⊎_elim
       (λ (under : u < k). met_before r u h (omega arith))
       (λ (over : k + n ≤ u). met_all (r + 1) u h (later u (ended u h over)) ∙ sym (met_all r u h (ended u h over))))
+    where
+      size : length l ≡ 86
+      size = ap length e ∙ length_listed 86 (λ u. t (12 + 86 * row + u))
+
+      symbol : (u : ℕ) → u < n → get_or l (p + u) 0 ≡ t (12 + 86 * row + p + u)
+      symbol u h =
+          let same : 12 + 86 * row + (p + u) ≡ 12 + 86 * row + p + u = omega arith in
+          ap (λ (i : List ℕ). get_or i (p + u) 0) e ∙ getD_listed 86 (λ u. t (12 + 86 * row + u)) (p + u) (omega (arith, q_row_room)) ∙ ap t same
 
 -- after the last step all are whole
-pub q_whole : (t : ℕ → ℕ) (r : ℕ) (a b : List ℕ) → r ≡ 68 → Sums (q_lane t) (met r) 52 a b → Sums (q_lane t) (λ u. 43) 52 a b
+pub q_whole : (t : ℕ → ℕ) (r : ℕ) (a b : List ℕ) → r ≡ 68 → AreSums (q_lane t) (met r) 52 a b → AreSums (q_lane t) (λ u. 43) 52 a b
 q_whole t r a b e m =
     record {
       size_a = m.size_a;

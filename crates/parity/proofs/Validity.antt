@@ -173,7 +173,7 @@ module _ (c : Code) (n : ℕ) (at : Placed c n) (z : Bool) where
 -- Both codes
 
 module _ (z : Bool) (d : List ℕ) (size : length d ≡ 2076) where
-  p_long : length (coded p z d) ≡ 2248
+  pub p_long : length (coded p z d) ≡ 2248
   unfolding p
   p_long = length_coded p 2076 p_placed z d size
 

@@ -33,7 +33,7 @@ pub record Taken (x : ℕ → ℕ) (k n : ℕ) (a b a' b' : List ℕ) : Type 0 w
   pub others_b : (u : ℕ) → (u < k) ⊎ (k + n ≤ u) → get_or b' u 0 ≡ get_or b u 0
 
 -- a and b are the two sums of n words: of the one at place u, which is g u, the first `met u` symbols are in them
-pub record Sums (g : ℕ → ℕ → ℕ) (met : ℕ → ℕ) (n : ℕ) (a b : List ℕ) : Type 0 where
+pub record AreSums (g : ℕ → ℕ → ℕ) (met : ℕ → ℕ) (n : ℕ) (a b : List ℕ) : Type 0 where
   pub size_a : length a ≡ n
   pub size_b : length b ≡ n
   pub plain : (u : ℕ) → u < n → get_or a u 0 ≡ sum (met u) (g u)

@@ -17,13 +17,11 @@ pub fn product(a: u8, b: u8) -> u8
 {
     let mut x = a;
     let mut y = b;
-    let mut sum: u8 = 0;
-    let mut k: u8 = 0;
-    while k < 8 {
-        sum = sum ^ ((y % 2) * x);
+    let mut sum = 0;
+    for _ in 0..u8::BITS {
+        sum ^= (y % 2) * x;
         x = times_x(x);
-        y = y / 2;
-        k += 1;
+        y /= 2;
     }
     sum
 }

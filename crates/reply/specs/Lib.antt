@@ -1,2 +1,3 @@
--- The reply to a call.
+-- The reply to a call, and what is claimed of its numbers.
 pub mod Reply
+pub mod Claims

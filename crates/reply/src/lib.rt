@@ -1,42 +1,68 @@
-// The reply to a call (paper 01, "Reply numbers"), and its two kinds: a refusal and an answer.
+// The reply to a call (paper 01, "Reply numbers"): its result, or the refusal that applies.
 #![tactic(auto)]
 
-ghost use Rattle.std.specs.Prelude.{◌≡◌};
-ghost use Rattle.reply.specs.Reply.{refusal, answer};
+ghost use Rattle.std.specs.Prelude.{◌≡◌, false, true, OnOk, IfErr};
+ghost use Rattle.reply.specs.Reply.{number, reply_of};
 
-// A number of this table, the lowest that applies, and a result, which is 0 where the call is refused or has none.
-//   0  done
-//   1  lent ring is not N × 2,560 bytes; sector not 2,352; N outside 3..255; chip record unsound
-//   2  register not listed for that direction
-//   3  value or address out of its stated range
-//   4  barred by a running transfer, packet reception or BSY, where stated
-//   5  switches not as the call needs
-//   6  fewer good blocks (or no full packet) than asked
-//   7  sector with DECEN low
-//   8  sector after a bad one, DECEN not yet taken low
-//   9  sector, and the ring is at its stop
-#[derive(Clone, Copy)]
-pub struct Reply {
-    pub number: u8,
-    pub result: u16,
+// Why a call is refused. Of several that apply, the one with the lowest number is answered.
+#[derive(Clone, Copy, Debug, PartialEq, Eq)]
+pub enum Refusal {
+    // 1: the lent ring is not N × 2,560 bytes, the sector not 2,352, N outside 3..255, or the chip record unsound
+    Unfit,
+    // 2: a register that is not listed for that direction
+    Unlisted,
+    // 3: a value or address out of its stated range
+    OutOfRange,
+    // 4: barred by a running transfer, packet reception or BSY, where stated
+    Barred,
+    // 5: switches not as the call needs
+    Unready,
+    // 6: fewer good blocks (or no full packet) than asked
+    TooFew,
+    // 7: a sector with DECEN low
+    DecoderOff,
+    // 8: a sector after a bad one, DECEN not yet taken low
+    AfterBad,
+    // 9: a sector, and the ring is at its stop
+    AtStop,
 }
 
-// Ruled out: one that gives a result with its refusal, and one that answers 0.
-pub fn refuse(number: u8) -> Reply
-    ensures { result ≡ refusal number }
-{
-    Reply {
-        number: number,
-        result: 0,
+impl Refusal {
+    // Its number in the table.
+    // Ruled out: one that counts from 0, and one that gives two refusals the same number.
+    pub fn number(self) -> u8
+        ensures { result ≡ number self }
+    {
+        match self {
+            Refusal::Unfit => 1,
+            Refusal::Unlisted => 2,
+            Refusal::OutOfRange => 3,
+            Refusal::Barred => 4,
+            Refusal::Unready => 5,
+            Refusal::TooFew => 6,
+            Refusal::DecoderOff => 7,
+            Refusal::AfterBad => 8,
+            Refusal::AtStop => 9,
+        }
     }
 }
 
-// Ruled out: one that gives another number than 0, and one that drops the result.
-pub fn answer(value: u16) -> Reply
-    ensures { result ≡ answer value }
+// A reply's two numbers: 0 and the result where the call is done, else the refusal's number and 0.
+// Ruled out: one that gives a result with its refusal, one that gives another number than 0 where the call is done, and one that drops the result.
+pub fn parts(reply: Result<u16, Refusal>) -> (u8, u16)
+    ensures { record { number = result.0; result = result.1 } ≡ reply_of reply }
 {
-    Reply {
-        number: 0,
-        result: value,
+    match reply {
+        Ok(value) => (0, value),
+        Err(refusal) => (refusal.number(), 0),
     }
+}
+
+// Passes a call that nothing bars, and refuses another.
+// Ruled out: one that lets every call pass, and one that answers another refusal.
+pub fn refuse_if(applies: bool, refusal: Refusal) -> Result<(), Refusal>
+    ensures passed { OnOk result (applies ≡ false) }
+    ensures refused { IfErr result (λ r. (r ≡ refusal) × (applies ≡ true)) }
+{
+    if applies { Err(refusal) } else { Ok(()) }
 }

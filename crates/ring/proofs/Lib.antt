@@ -1,4 +1,3 @@
 -- Laws of the ring's place and memory.
-pub mod Steps
 pub mod Blocks
 pub mod Represents

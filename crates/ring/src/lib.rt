@@ -8,9 +8,9 @@ ghost use Rattle.std.specs.Prelude.{◌≡◌, ◌+◌, ◌%◌, ◌<◌};
 ghost use Rattle.ring.specs.Place.{opened, ring_facts, full, place_step, PlaceSound};
 
 use controller::{Event, RingFacts};
-pub use memory::{store, word_of};
+pub use memory::{BLOCK, store, word_of};
 
-#[derive(Clone, Copy)]
+#[derive(Clone, Copy, Debug, PartialEq, Eq, Default)]
 pub struct Place {
     pub n: u16,
     pub t: u16,
@@ -37,10 +37,8 @@ impl Place {
         ensures { result ≡ opened n }
     {
         Place {
-            n: n,
-            t: 0,
-            b: 0,
-            last: 0,
+            n,
+            ..Place::default()
         }
     }
 
@@ -48,11 +46,8 @@ impl Place {
     pub fn facts(self) -> RingFacts
         ensures { result ≡ ring_facts self }
     {
-        RingFacts {
-            n: self.n,
-            t: self.t,
-            last: self.last,
-        }
+        let Place { n, t, last, .. } = self;
+        RingFacts { n, t, last }
     }
 
     // The ring's own stop.
@@ -67,39 +62,20 @@ impl Place {
         requires { PlaceSound self }
         ensures { result ≡ place_step self event }
     {
-        let n = self.n;
-        let t = self.t;
-        let b = self.b;
         match event {
-            Event::Stay => self,
-            Event::Store => Place {
-                n: n,
-                t: t,
-                b: after(b, 1, n),
-                last: b,
-            },
-            Event::Advance(k) => {
-                let next = after(t, k, n);
-                self.t = next;
-                self
+            Event::Stay => {}
+            Event::Store => {
+                self.last = self.b;
+                self.b = after(self.b, 1, self.n);
             }
-            Event::Rewind(k) => {
-                let next = after(t, k, n);
-                self.b = next;
-                self
+            Event::Advance(k) => self.t = after(self.t, k, self.n),
+            Event::Rewind(k) => self.b = after(self.t, k, self.n),
+            Event::Move(k) => {
+                self.t = k;
+                self.b = k;
             }
-            Event::Move(k) => Place {
-                n: n,
-                t: k,
-                b: k,
-                last: self.last,
-            },
-            Event::Clear => Place {
-                n: n,
-                t: 0,
-                b: 0,
-                last: 0,
-            },
+            Event::Clear => self = Place::opened(self.n),
         }
+        self
     }
 }

@@ -1,25 +1,35 @@
 // The lent memory: a sector is received into its block, and a word of a block is read.
-ghost use Rattle.std.specs.Prelude.{◌≡◌, true, ◌+◌, ◌*◌, ◌<◌, ◌≤◌, length};
+ghost use Rattle.std.specs.Prelude.{◌≡◌, ◌+◌, ◌*◌, ◌<◌, ◌≤◌, length};
 ghost use Rattle.laws.specs.Bytes.{word_at};
-ghost use Rattle.sector.specs.Address.{valid};
 ghost use Rattle.sector.specs.Receive.{received};
 ghost use Rattle.ring.specs.Memory.{base, stored};
 
-use sector::{Address, Judgement};
+use sector::{Address, Judgement, LENGTH};
 use slices::word_at;
+
+// The bytes of a block.
+pub const BLOCK: usize = 2560;
+
+// Receives a sector into a part of the ring that is a block's.
+fn fill(part: &mut [u8], sector: &[u8; LENGTH], expected: Address) -> Judgement
+    requires { length part.old ≡ 2352 }
+    ensures { record { bytes = part.new; judgement = result } ≡ received expected sector.now }
+{
+    let Some(block) = part.as_mut_array::<LENGTH>() else {
+        unreachable!();
+    };
+    sector::receive(block, sector, expected)
+}
 
 // Receives a sector into block b, which is lent for it: the blocks before and after it stay.
 // Ruled out: one that writes into the next block, and one that judges what the block held before.
-pub fn store(ring: &mut [u8], b: u16, sector: &[u8], expected: Address) -> Judgement
-    requires b_in_bounds { base b + 2352 ≤ length ring.old }
-    requires sector_len { length sector.now ≡ 2352 }
-    requires expected_value { valid expected ≡ true }
+pub fn store(ring: &mut [u8], b: u16, sector: &[u8; LENGTH], expected: Address) -> Judgement
+    requires { base b + 2352 ≤ length ring.old }
     ensures judged { result ≡ (received expected sector.now).judgement }
     ensures ring { ring.new ≡ stored ring.old b (received expected sector.now).bytes }
 {
-    let a = b as usize * 2560;
-    let e = a + 2352;
-    sector::receive(&mut ring[a..e], sector, expected)
+    let start = b as usize * BLOCK;
+    fill(&mut ring[start..start + LENGTH], sector, expected)
 }
 
 // A word of block t, its first byte low.
@@ -28,6 +38,8 @@ pub fn word_of(ring: &[u8], t: u16, offset: u16, place: u16) -> u16
     requires { base t + offset + 2 * place + 1 < length ring.now }
     ensures { result ≡ word_at ring.now (base t + offset + 2 * place) }
 {
-    let a = t as usize * 2560 + offset as usize + 2 * place as usize;
-    word_at(ring, a)
+    word_at(
+        ring,
+        t as usize * BLOCK + offset as usize + 2 * place as usize,
+    )
 }

@@ -1,16 +1,15 @@
 -- The laws of xored lists and of scrambled sectors. Assumes nothing.
 use mathlib.Core.Path.{◌≡◌, refl, sym, ap, ap₂, ◌∙◌}
 use mathlib.Core.List.{List, [], ◌∷◌, ◌++◌}
-use Prim.Native.Nat.{ℕ, zero, suc, ◌-◌, ◌<◌}
+use Prim.Native.Nat.{ℕ, zero, suc, ◌+◌, ◌<◌}
 use native.Mathlib.Nat.{le_of_suc-le-suc, not-suc-le-zero}
 use native.Mathlib.Omega.{arith}
 use lib.ListN.{length, take, drop, get_or, length-append, length-drop, take-append-drop}
-use lib.Seq.{length-take-le, take_at, drop_at}
+use lib.Seq.{length-take-le, take_at, drop_at, get_or-drop, ext_get_or}
+use Rattle.std.proofs.lemmas.List.{get_or-take}
 use lib.Bits.{bit_xor}
-use borrow.Rule.Slice.PartMut.{put_mid, mid_of}
 use Rattle.laws.specs.Bytes.{Bytes}
 use Rattle.laws.proofs.Bytes.{bytes_of, bytes_cons, bytes_append, bytes_take, bytes_drop, xor_byte}
-use Rattle.laws.proofs.Parts.{put_rest, mid_rest}
 use Rattle.laws.proofs.Xor.{xor_cancel}
 use Rattle.scramble.specs.Table.{table}
 use Rattle.scramble.specs.Scramble.{xored, scrambled}
@@ -72,9 +71,22 @@ unfolding scrambled
 bytes_scrambled s h =
     bytes_append (take 12 s) (xored (drop 12 s) table) (bytes_take 12 s h) (bytes_xored (drop 12 s) table (bytes_drop 12 s h) bytes_table)
 
--- a sector, after a call was lent its bytes 12 to 2,351, and what that call was lent
-pub put_from_12 : (s last : List ℕ) → length s ≡ 2352 → put_mid 12 2340 s last ≡ take 12 s ++ last
-put_from_12 s last full = ap (λ (n : ℕ). put_mid 12 (n - 12) s last) (sym full) ∙ put_rest 12 s last
+-- a sector whose sync bytes are those of s, and whose others are those of s xored with the table, is s scrambled
+module _ (s d : List ℕ) (full : length s ≡ 2352) (size : length d ≡ 2352) (sync : (k : ℕ) → k < 12 → get_or d k 0 ≡ get_or s k 0)
+    (done : (k : ℕ) → k < 2340 → get_or d (12 + k) 0 ≡ bit_xor (get_or s (12 + k) 0) (get_or table k 0)) where
+  same_sync : take 12 d ≡ take 12 s
+  same_sync =
+      ext_get_or 0 (take 12 d) (take 12 s) (front d size ∙ sym (front s full))
+      (λ k h. let l : k < 12 = omega (arith, front d size) in get_or-take 12 d k 0 l ∙ sync k l ∙ sym (get_or-take 12 s k 0 l))
 
-pub mid_from_12 : (s : List ℕ) → length s ≡ 2352 → mid_of 12 2340 s ≡ drop 12 s
-mid_from_12 s full = ap (λ (n : ℕ). mid_of 12 (n - 12) s) (sym full) ∙ mid_rest 12 s
+  same_rest : drop 12 d ≡ xored (drop 12 s) table
+  same_rest =
+      ext_get_or 0 (drop 12 d) (xored (drop 12 s) table) (simp (length_xored, length-drop) (omega arith))
+      (λ k h.
+      let l : k < 2340 = omega (arith, length-drop 12 d) in
+      get_or-drop 12 d k 0 ∙ done k l ∙ ap (λ (x : ℕ). bit_xor x (get_or table k 0)) (sym (get_or-drop 12 s k 0))
+      ∙ getD_xored (drop 12 s) table k (omega (arith, length-drop 12 s)) (omega (arith, length_table)))
+
+  pub scrambled_is : d ≡ scrambled s
+  unfolding scrambled
+  scrambled_is = sym (take-append-drop 12 d) ∙ ap₂ (λ (a b : List ℕ). a ++ b) same_sync same_rest

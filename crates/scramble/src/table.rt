@@ -1,9 +1,9 @@
-// The scrambler's 2,340 bytes (ECMA-130, Annex B), and the function that makes them for a caller to lend: a constant array
-// is built anew wherever it is read, so that it is read once for each sector and not for each byte.
+// The scrambler's 2,340 bytes (ECMA-130, Annex B). A static lies in the program's read-only data and is borrowed from there; a
+// constant array would be built anew on the stack wherever it is named. The function says for its callers' proofs what they are.
 ghost use Rattle.std.specs.Prelude.{◌≡◌};
 ghost use Rattle.scramble.specs.Table.{table};
 
-const SCRAMBLE: [u8; 2340] = [
+static SCRAMBLE: [u8; 2340] = [
     1, // s(0) = 1, and s(1) to s(7) = 0
     128, 0, 96, 0, 40, 0, 30, 128, 8, 96, 6, 168, 2, 254, 129, 128, 96, 96, 40, 40, 30, 158, 136,
     104, 102, 174, 170, 252, 127, 1, 224, 0, 72, 0, 54, 128, 22, 224, 14, 200, 4, 86, 131, 126,
@@ -121,8 +121,8 @@ const SCRAMBLE: [u8; 2340] = [
     67, 73, 241, 246, 196, 70, 211, 114, 221, 229, 153,
 ];
 
-pub fn table() -> [u8; 2340]
-    ensures { result ≡ table }
+pub fn table() -> &'static [u8; 2340]
+    ensures { result.now ≡ table }
 {
-    SCRAMBLE
+    &SCRAMBLE
 }

@@ -1,71 +1,40 @@
 -- What the bench answers, by cases of the word handed over and of a sector line. Assumes nothing.
-use Rattle.std.proofs.Common.{◌≡◌, ℕ, ◌+◌, ◌-◌, ◌<◌, ◌≤◌, Bool, true, false, not, ◌&&◌, eqb, ltb, leb, List, ◌++◌, length, get_or, take, drop, sym, refl, ap, ◌∙◌, add-zero, arith, take-append-drop, ltb-false, ltb-true, le-ltb, lt-ltb, eq-eqb, ne_eqb, eqb-true, le-leb, leb-true}
+use Rattle.std.proofs.Common.{◌≡◌, ℕ, ◌+◌, ◌-◌, ◌<◌, ◌≤◌, Bool, true, false, not, ◌&&◌, eqb, ltb, leb, List, ◌++◌, length, get_or, take, drop, replicate, sym, refl, ap, ◌∙◌, add-zero, arith, take-append-drop, ltb-false, ltb-true, le-ltb, eq-eqb, eqb-true, le-leb, leb-true, true≢false, ap₂}
+use lib.ListN.{length-replicate}
 use borrow.Rule.Slice.PartMut.{put_mid, mid_of}
-use borrow.Author.Tests.{not-true, not-false}
+use borrow.Author.Tests.{not-false}
 use Rattle.laws.specs.Bytes.{inverted}
-use Rattle.std.specs.Prelude.{if◌then◌else◌}
+use Rattle.std.specs.Prelude.{if◌then◌else◌, Option}
 use Rattle.laws.proofs.Bytes.{length_inverted, getD_inverted}
 use Rattle.laws.proofs.Parts.{put_part}
 use Rattle.laws.proofs.Window.{length_window, get_d_window, length_put, getD_put}
 use Rattle.laws.proofs.Choice.{if_case, if_true, if_false, then_same, left_true, right_true, not_of_true, not_of_false}
 use Rattle.sector.specs.Address.{valid}
-use Rattle.sector.specs.Calls.{seal_sector}
+use Rattle.sector.specs.Calls.{seal_reply, seal_sector}
 use Rattle.sector.specs.Layout.{agrees}
 use Rattle.sector.specs.declared.Address.{Address}
+use Rattle.reply.proofs.Claims.{nonzero}
+use Rattle.reply.specs.Reply.{Reply, refusal, number}
+use Rattle.reply.specs.declared.Refusal.{Refusal}
+use Rattle.chip.specs.Chip as chip
+use Rattle.chip.specs.Chip.{opened}
+use Rattle.chip.specs.Told as told
+use Rattle.chip.specs.Told.{Told}
 use Rattle.chip.specs.Calls as calls
+use Rattle.chip.specs.Calls.{Lent, lent, sector_lent}
 use Rattle.chip.specs.declared.Chip.{Chip}
-use Rattle.chip.specs.declared.WordTold.{WordTold}
-use Rattle.chip.specs.declared.Word.TheVariants.{Handed, Refused}
-use Rattle.script.specs.Answers.{unchanged, refused, word, word_refused, disc_number, brought, disc, said}
+use Rattle.script.specs.Answers.{refused, of_told, opening, disc_number, brought, disc}
 use Rattle.script.specs.Disc.{inside, scratched, unsealed, arriving}
-use Rattle.script.specs.declared.call.Answer.{Answer}
 use Rattle.script.specs.declared.disc.Damage.{Damage}
 use Rattle.script.specs.declared.disc.Carried.{Carried}
 
--- the host word, by whether one is handed over
-module _ (c : Chip) (ring : List ℕ) (t : WordTold) (e : t ≡ calls.word_told c ring) where
-  of_word : WordTold → Answer
-  of_word u = record { opened = true; chip = u.chip; number = calls.word_number u.word; out = calls.word_value u.word }
-
-  pub word_not : (k : ℕ) → t.word ≡ Refused k → word_refused t.chip t.word ≡ word c ring
-  unfolding word of_word
-  word_not k q =
-      ap (λ (v : ℕ). record { opened = true; chip = t.chip; number = calls.word_number t.word; out = v }) (sym (ap (λ w. calls.word_value w) q))
-      ∙ ap of_word e
-
-  pub word_given : (w : ℕ) → t.word ≡ Handed w → record { opened = true; chip = t.chip; number = 0; out = w } ≡ word c ring
-  unfolding word of_word
-  word_given w q =
-      ap (λ v. record { opened = true; chip = t.chip; number = calls.word_number v; out = calls.word_value v }) (sym q)
-      ∙ ap of_word e
-
--- a sector line: its number, by the tests in their order: the buffer's size, the fill, the address, the form, the chip
+-- a sector line
 module _ (c : Chip) (d : Carried) (ring s : List ℕ) (a : Address) (byte : ℕ) where
-  pub number_size : (length s ≡ 2352 → ⊥) → 1 ≡ disc_number c d ring s a byte
+  -- its number, where all that the chip does not test is in order
+  pub number_chip : length s ≡ 2352 → byte ≤ 255 → valid a ≡ true → agrees d.kind d.subheader ≡ true → calls.sector_number c ring s ≡ disc_number c d ring s a byte
   unfolding disc_number
-  number_size h = sym (if_true _ _ _ (not_of_false _ (ne_eqb _ _ h)))
-
-  module _ (h : length s ≡ 2352) where
-    pub number_fill : 255 < byte → 3 ≡ disc_number c d ring s a byte
-    unfolding disc_number
-    number_fill k = sym (if_false _ _ _ (not_of_true _ (eq-eqb _ _ h)) ∙ if_true _ _ _ (lt-ltb _ _ k))
-
-    module _ (k : byte ≤ 255) where
-      pub number_address : valid a ≡ false → 3 ≡ disc_number c d ring s a byte
-      unfolding disc_number
-      number_address f =
-          sym (if_false _ _ _ (not_of_true _ (eq-eqb _ _ h)) ∙ if_false _ _ _ (le-ltb _ _ k) ∙ if_true _ _ _ (not_of_false _ f))
-
-      module _ (v : valid a ≡ true) where
-        pub number_form : agrees d.kind d.subheader ≡ false → 3 ≡ disc_number c d ring s a byte
-        unfolding disc_number
-        number_form f =
-            sym (if_false _ _ _ (not_of_true _ (eq-eqb _ _ h)) ∙ if_false _ _ _ (le-ltb _ _ k) ∙ if_false _ _ _ (not_of_true _ v) ∙ if_true _ _ _ (not_of_false (agrees d.kind d.subheader) f))
-
-        pub number_chip : agrees d.kind d.subheader ≡ true → calls.sector_number c ring s ≡ disc_number c d ring s a byte
-        unfolding disc_number
-        number_chip t =
-            sym (if_false _ _ _ (not_of_true _ (eq-eqb _ _ h)) ∙ if_false _ _ _ (le-ltb _ _ k) ∙ if_false _ _ _ (not_of_true _ v) ∙ if_false _ _ _ (not_of_true (agrees d.kind d.subheader) t))
+  number_chip h k v t =
+      sym (if_false _ _ _ (not_of_true _ (eq-eqb _ _ h)) ∙ if_false _ _ _ (le-ltb _ _ k) ∙ if_false _ _ _ (not_of_true _ v) ∙ if_false _ _ _ (not_of_true (agrees d.kind d.subheader) t))
 
   -- 3 for the form, whatever fill and address are
   pub number_other : length s ≡ 2352 → agrees d.kind d.subheader ≡ false → disc_number c d ring s a byte ≡ 3
@@ -79,9 +48,9 @@ module _ (c : Chip) (d : Carried) (ring s : List ℕ) (a : Address) (byte : ℕ)
   abbrev Admitted : Type 0
   Admitted = (length s ≡ 2352) × ((byte ≤ 255) × ((valid a ≡ true) × (agrees d.kind d.subheader ≡ true)))
 
-  pub admitted : (n : ℕ) → n ≡ disc_number c d ring s a byte → n ≡ 0 → Admitted
+  pub admitted : disc_number c d ring s a byte ≡ 0 → Admitted
   unfolding disc_number
-  admitted n e z =
+  admitted =
       if_case (λ (m : ℕ). m ≡ 0 → Admitted) (not (eqb (length s) 2352)) 1 _
       (λ t w. absurd (omega (arith, w)))
       (λ t. if_case (λ (m : ℕ). m ≡ 0 → Admitted) (ltb 255 byte) 3 _
@@ -91,22 +60,27 @@ module _ (c : Chip) (d : Carried) (ring s : List ℕ) (a : Address) (byte : ℕ)
       (λ v. if_case (λ (m : ℕ). m ≡ 0 → Admitted) (not (agrees d.kind d.subheader)) 3 _
       (λ x w. absurd (omega (arith, w)))
       (λ x w. (eqb-true _ _ (not-false _ t), (ltb-false _ _ u, (not-false _ v, not-false (agrees d.kind d.subheader) x)))))))
-      (sym e ∙ z)
 
-  -- refused, and accepted
-  module _ (n : ℕ) (e : n ≡ disc_number c d ring s a byte) where
-    pub disc_not : (n ≡ 0 → ⊥) → unchanged ring s (refused true c n) ≡ disc c d ring s a byte
-    unfolding disc
-    disc_not z =
-        ap (λ (m : ℕ). unchanged ring s (refused true c m)) e
-        ∙ sym (if_false _ _ _ (ne_eqb _ _ (λ (q : disc_number c d ring s a byte ≡ 0). z (e ∙ q))))
+  -- such a line is run: its sector is sealed, and what the chip answers is the answer
+  module _ (e : 0 ≡ disc_number c d ring s a byte) (l : List ℕ) (b : ℕ) (f : l ≡ replicate (length s) b) (g : b ≡ byte) where
+    u : l ≡ unsealed byte
+    u = f ∙ ap₂ (λ (n x : ℕ). replicate n x) (admitted (sym e)).0 g
 
-    module _ (z : n ≡ 0) (l s' t : List ℕ) (u : l ≡ unsealed byte) (p : s' ≡ seal_sector l a d.kind d.subheader) (q : t ≡ scratched d.damage s') where
-      pub disc_done : brought c ring t ≡ disc c d ring s a byte
-      unfolding disc arriving
-      disc_done =
-          ap (brought c ring) (q ∙ ap (scratched d.damage) (p ∙ ap (λ (x : List ℕ). seal_sector x a d.kind d.subheader) u))
-          ∙ sym (if_true _ _ _ (eq-eqb _ _ (sym e ∙ z)))
+    pub never_unsealed : (r : Refusal) → refusal (number r) ≡ seal_reply l a d.kind d.subheader → ⊥
+    unfolding seal_reply
+    never_unsealed r q =
+        let h = admitted (sym e) in
+        let full : eqb (length l) 2352 ≡ true = eq-eqb _ _ (ap length u ∙ length-replicate {A = ℕ} 2352 byte) in
+        let fit : (valid a && agrees d.kind d.subheader) ≡ true = ap₂ (λ (x y : Bool). x && y) h.1.1.0 h.1.1.1 in
+        true≢false (sym (ap (λ (t : Reply). eqb t.number 0) (q ∙ if_true (eqb (length l) 2352) _ _ full ∙ if_true (valid a && agrees d.kind d.subheader) _ _ fit)) ∙ nonzero r)
+
+    pub disc_run : (s' t ring' : List ℕ) (x : Told) → s' ≡ seal_sector l a d.kind d.subheader → t ≡ scratched d.damage s'
+        → lent x ring' ≡ sector_lent c ring t → record { answer = of_told x; memory = ring'; sector = t } ≡ disc c d ring s a byte
+    unfolding disc arriving
+    disc_run s' t ring' x p q k =
+        ap (λ (y : Lent). record { answer = of_told y.told; memory = y.ring; sector = t }) k
+        ∙ ap (brought c ring) (q ∙ ap (scratched d.damage) (p ∙ ap (λ (y : List ℕ). seal_sector y a d.kind d.subheader) u))
+        ∙ sym (if_true _ _ _ (eq-eqb _ _ (sym e)))
 
 -- a sector that arrives damaged: as long as it was, and as the code leaves it
 module _ (d : Damage) (s : List ℕ) where
@@ -140,18 +114,14 @@ module _ (d : Damage) (s : List ℕ) where
       getD_inverted (take d.count (drop d.from s)) (k - d.from) (omega (arith, part))
       ∙ ap (λ (x : ℕ). 255 - x) (get_d_window d.from d.count (k - d.from) 0 s here ∙ ap (λ (i : ℕ). get_or s i 0) place))
 
-  pub as_it_was : (b : Bool) → b ≡ inside d.from d.count → not b ≡ true → s ≡ scratched d s
-  unfolding scratched
-  as_it_was b e out = sym (if_false (inside d.from d.count) _ s (sym e ∙ not-true b out))
-
-  pub turned : (b : Bool) → b ≡ inside d.from d.count → not b ≡ false → (t : List ℕ) → t ≡ inverted (mid_of d.from (d.from + d.count - d.from) s)
+  pub turned : inside d.from d.count ≡ true → (t : List ℕ) → t ≡ inverted (mid_of d.from (d.from + d.count - d.from) s)
       → put_mid d.from (d.from + d.count - d.from) s t ≡ scratched d s
   unfolding scratched
-  turned b e in_it t et =
+  turned e t et =
       let size : d.from + d.count - d.from ≡ d.count = omega arith in
       put_part d.from d.count s t
       ∙ ap (λ (x : List ℕ). take d.from s ++ (x ++ drop (d.from + d.count) s)) (et ∙ ap (λ (n : ℕ). inverted (take n (drop d.from s))) size)
-      ∙ sym (if_true (inside d.from d.count) _ s (sym e ∙ not-false b in_it))
+      ∙ sym (if_true (inside d.from d.count) _ s e)
 
 -- a count of 0 damages nothing
 pub scratched_none : (from : ℕ) (s : List ℕ) → scratched (record { from = from; count = 0 }) s ≡ s
@@ -161,11 +131,12 @@ scratched_none from s =
     (λ _. ap (λ (n : ℕ). take from s ++ drop n s) (add-zero from) ∙ take-append-drop from s)
     (λ _. refl)
 
--- a line that says something, in range or not
-pub said_not : (c : Chip) (b : Bool) → not b ≡ true → refused true c 3 ≡ said c b
-unfolding said
-said_not c b e = sym (ap (λ (x : Bool). record { opened = true; chip = c; number = if x then 0 else 3; out = 0 }) (not-true b e))
-
-pub said_so : (c : Chip) (b : Bool) → not b ≡ false → refused true c 0 ≡ said c b
-unfolding said
-said_so c b e = sym (ap (λ (x : Bool). record { opened = true; chip = c; number = if x then 0 else 3; out = 0 }) (not-false b e))
+-- a ring that the chip refuses
+pub opening_barred : (n : ℕ) (r : Refusal) → told.refused chip.closed (number r) ≡ opened n → ltb 25 n ≡ false → (o : Option Chip) → refused o (number r) ≡ opening o n
+unfolding opening opened
+opening_barred n r e h o =
+    if_case (λ (t : Told). told.refused chip.closed (number r) ≡ t → refused o (number r) ≡ (if ltb 25 n then refused o 1 else if eqb t.reply.number 0 then of_told t else refused o 1))
+    (leb 3 n && leb n 255) _ _
+    (λ _ q. absurd (true≢false (sym (ap (λ (t : Told). eqb t.reply.number 0) q) ∙ nonzero r)))
+    (λ _ q. ap (λ (t : Told). refused o t.reply.number) q ∙ sym (if_false _ _ _ h))
+    e

@@ -1,9 +1,11 @@
 -- Lines of a text, run one after the other: one line found and run is one step of `fed`. Assumes nothing.
-use Rattle.std.proofs.Common.{◌≡◌, get_or, add-one, drop_of_length-le, ℕ, suc, ◌+◌, ◌-◌, ◌<◌, ◌≤◌, Bool, true, false, not, eqb, ltb, ◌⊎◌, List, [], ◌∷◌, ◌++◌, length, take, drop, sym, refl, ap, ◌∙◌, ap₂, inl, inr, append-nil, le_of_suc-le-suc, not-suc-le-zero, arith, length-drop, take-append-drop, length-take-le, drop-drop, ltb-false, le-ltb}
-use borrow.Author.Tests.{eq-eqb, ne_eqb}
-use lib.Seq.{append_snoc, drop-cons}
+use Rattle.std.proofs.Common.{◌≡◌, ℕ, suc, ◌+◌, ◌-◌, ◌<◌, ◌≤◌, Bool, true, false, not, eqb, ltb, ◌⊎◌, List, [], ◌∷◌, ◌++◌, length, take, drop, sym, refl, ap, ◌∙◌, ap₂, inl, inr, append-nil, le_of_suc-le-suc, not-suc-le-zero, arith, length-drop, take-append-drop, length-take-le, drop-drop, ltb-false, ltb-true, le-ltb, subst}
+use lib.Seq.{append_snoc}
 use borrow.Rule.Slice.PartMut.{put_mid}
-use Rattle.std.specs.Prelude.{if◌then◌else◌}
+use Rattle.std.specs.Prelude.{if◌then◌else◌, cond, Option, Some, None, MatchOption}
+use Rattle.std.specs.Prelude.{position}
+use Rattle.std.specs.List.{position_or_len}
+use Rattle.std.proofs.lemmas.List.Recursion.{is_position_or_len}
 use Rattle.laws.proofs.Choice.{if_false}
 use Rattle.laws.proofs.Ends.{take_put, drop_put}
 use Rattle.syntax.specs.Print.{room, over}
@@ -49,20 +51,20 @@ module _ (bytes : ℕ) (d : Progress) where
   none [] acc h = refl
   none (b ∷ bs) acc h = none_cases (eqb b 10) acc bs b h (λ (more : List ℕ) (k : ltb bytes (length d.printed + room) ≡ false → length bs ≤ line_end bs). none bs more k)
 
--- a search for the line end from a place on: it is there, it is behind, or there is none
-module _ (l : List ℕ) (i : ℕ) where
-  pub line_end_behind : i < length l → (get_or l i 0 ≡ 10 → ⊥) → i + 1 + line_end (drop (i + 1) l) ≡ i + line_end (drop i l)
-  unfolding line_end
-  line_end_behind h n =
-      rw (drop-cons l i 0 h) (rw (ne_eqb (get_or l i 0) 10 n) (rw (add-one i) (omega arith)))
+-- the place of the first line end, found or not
+pub line_end_is : (l : List ℕ) {o : Option ℕ} → o ≡ position (λ b. eqb b 10) l
+    → MatchOption o (length l ≤ line_end l) (λ n. (n ≡ line_end l) × (n < length l))
+unfolding line_end
+line_end_is l e = subst (λ (o : Option ℕ). MatchOption o (length l ≤ line_end l) (λ n. (n ≡ line_end l) × (n < length l))) (sym e) (by (ltb place (length l)) refl) where
+  place : ℕ
+  place = position_or_len (λ b. eqb b 10) l
 
-  pub line_end_here : i < length l → get_or l i 0 ≡ 10 → i ≡ i + line_end (drop i l)
-  unfolding line_end
-  line_end_here h e = rw (drop-cons l i 0 h) (rw (eq-eqb (get_or l i 0) 10 e) (omega arith))
+  same : line_end l ≡ place
+  same = is_position_or_len line_end (λ b. eqb b 10) refl (λ x xs. ap (λ (k : ℕ). cond (eqb x 10) 0 k) (omega arith)) l
 
-  pub line_end_none : length l ≤ i → i ≡ i + line_end (drop i l)
-  unfolding line_end
-  line_end_none h = rw (drop_of_length-le l h) (omega arith)
+  by : (b : Bool) → ltb place (length l) ≡ b → MatchOption (cond b (Some place) None) (length l ≤ line_end l) (λ n. (n ≡ line_end l) × (n < length l))
+  by true h = (sym same, ltb-true _ _ h)
+  by false h = omega (arith, same, ltb-false _ _ h)
 
 -- what a feeding has left so far, as progress: the first `size` bytes of the buffer are printed
 abbrev pub now_at : Bench → List ℕ → List ℕ → List ℕ → ℕ → ℕ → Progress
@@ -77,28 +79,25 @@ pub record Stands (bytes : ℕ) (start : Progress) (whole out₀ : List ℕ) (b 
   pub leads : fed bytes (now_at b m s out size taken) [] (drop taken whole) ≡ fed bytes start [] whole
   pub behind : drop size out ≡ drop size out₀
 
-module _ (bytes : ℕ) (start : Progress) (whole out₀ : List ℕ) (b : Bench) (m s out : List ℕ) (size taken end : ℕ)
+module _ (bytes : ℕ) (start : Progress) (whole out₀ : List ℕ) (b : Bench) (m s out : List ℕ) (size taken n : ℕ)
     (st : Stands bytes start whole out₀ b m s out size taken) (lo : length out ≡ bytes) (hs : size ≤ length out) (hr : room ≤ length out - size)
-    (he : end < length whole) (ht : taken ≤ end) (ei : end ≡ taken + line_end (drop taken whole)) where
-  index_is : end - taken ≡ line_end (drop taken whole)
-  index_is = omega (arith, ei)
-
+    (he : n < length (drop taken whole)) (ei : n ≡ line_end (drop taken whole)) where
   left_is : fed bytes (now_at b m s out size taken) [] (drop taken whole)
-      ≡ fed bytes (with_line (now_at b m s out size taken) (take (end - taken) (drop taken whole))) [] (drop (end + 1) whole)
+      ≡ fed bytes (with_line (now_at b m s out size taken) (take n (drop taken whole))) [] (drop (taken + (n + 1)) whole)
   left_is =
       let lp : length (take size out) ≡ size = length-take-le size out hs in
       let r : length (take size out) + room ≤ bytes = omega (arith, lp, lo, hs, hr) in
-      let ld : length (drop taken whole) ≡ length whole - taken = length-drop taken whole in
-      let h : line_end (drop taken whole) < length (drop taken whole) = omega (arith, index_is, ld, he, ht) in
-      let n : taken + suc (line_end (drop taken whole)) ≡ end + 1 = omega (arith, index_is, ht) in
+      let h : line_end (drop taken whole) < length (drop taken whole) = omega (arith, ei, he) in
+      let q : taken + suc (line_end (drop taken whole)) ≡ taken + (n + 1) = omega (arith, ei) in
       first bytes (now_at b m s out size taken) (drop taken whole) [] (le-ltb _ _ r) h
-      ∙ ap₂ (λ (k : ℕ) (rest : List ℕ). fed bytes (with_line (now_at b m s out size taken) (take k (drop taken whole))) [] rest) (sym index_is)
-      (drop-drop (suc (line_end (drop taken whole))) taken whole ∙ ap (λ (k : ℕ). drop k whole) n)
+      ∙ ap₂ (λ (k : ℕ) (rest : List ℕ). fed bytes (with_line (now_at b m s out size taken) (take k (drop taken whole))) [] rest) (sym ei)
+      (drop-drop (suc (line_end (drop taken whole))) taken whole ∙ ap (λ (k : ℕ). drop k whole) q)
 
-  pub turned : (line w : List ℕ) (R : Ran) (m' s' o : List ℕ) → line ≡ take (end - taken) (drop taken whole) → w ≡ drop size out
-      → record { result = R; memory = m'; sector = s'; out = o } ≡ ran b m s line w
-      → Stands bytes start whole out₀ R.bench m' s' (put_mid size (length out - size) out o) (size + R.size) (end + 1)
-  turned line w R m' s' o el ew e =
+  pub turned : (w : List ℕ) (R : Ran) (m' s' o : List ℕ) → w ≡ drop size out
+      → record { result = R; memory = m'; sector = s'; out = o } ≡ ran b m s (take n (drop taken whole)) w
+      → Stands bytes start whole out₀ R.bench m' s' (put_mid size (length out - size) out o) (size + R.size) (taken + (n + 1))
+  turned w R m' s' o ew e =
+      let line = take n (drop taken whole) in
       let t = text (reply b m s line).answer (count b) in
       let out' = put_mid size (length out - size) out o in
       let lw : length w ≡ length out - size = ap length ew ∙ length-drop size out in
@@ -107,14 +106,13 @@ module _ (bytes : ℕ) (start : Progress) (whole out₀ : List ℕ) (b : Bench) 
       let ez : R.size ≡ length t = ap (λ (x : Left Ran). x.result.size) et in
       let eo : o ≡ over t (drop size out) = ap (λ (x : Left Ran). x.out) et ∙ ap (over t) ew in
       let ep : take (size + R.size) out' ≡ take size out ++ t = ap (λ (n : ℕ). take (size + n) out') ez ∙ take_put out t size hs o eo in
-      let ll : length line ≡ end - taken
-      = ap length el ∙ length-take-le (end - taken) (drop taken whole) (let ld : length (drop taken whole) ≡ length whole - taken = length-drop taken whole in omega (arith, ld, he)) in
-      let en : end + 1 ≡ taken + (length line + 1) = omega (arith, ll, ht) in
-      let ed : now_at R.bench m' s' out' (size + R.size) (end + 1) ≡ with_line (now_at b m s out size taken) line
-      = ap (λ (x : Left Ran). progress x (take (size + R.size) out') (end + 1)) et ∙ ap₂ (progress (told (reply b m s line) (carried_left b line (reply b m s line).answer.number) (count b) w)) ep en in
+      let ll : length line ≡ n = length-take-le n (drop taken whole) (omega (arith, he)) in
+      let en : taken + (n + 1) ≡ taken + (length line + 1) = omega (arith, ll) in
+      let ed : now_at R.bench m' s' out' (size + R.size) (taken + (n + 1)) ≡ with_line (now_at b m s out size taken) line
+      = ap (λ (x : Left Ran). progress x (take (size + R.size) out') (taken + (n + 1))) et ∙ ap₂ (progress (told (reply b m s line) (carried_left b line (reply b m s line).answer.number) (count b) w)) ep en in
       record {
         leads =
-            ap (λ (d : Progress). fed bytes d [] (drop (end + 1) whole)) (ed ∙ ap (with_line (now_at b m s out size taken)) el)
+            ap (λ (d : Progress). fed bytes d [] (drop (taken + (n + 1)) whole)) ed
             ∙ sym left_is ∙ st.leads;
         behind =
             ap (λ (n : ℕ). drop (size + n) out') ez
@@ -127,18 +125,16 @@ module _ (bytes : ℕ) (start : Progress) (whole out₀ : List ℕ) (b : Bench) 
 -- the end: no line is left, or no room
 module _ (bytes : ℕ) (start : Progress) (whole out₀ : List ℕ) (b : Bench) (m s out : List ℕ) (size taken : ℕ) (st : Stands bytes start whole out₀ b m s out size taken)
     (lo : length out ≡ bytes) (hs : size ≤ length out) where
-  pub settled : (bytes < size + room) ⊎ (length whole ≤ taken + line_end (drop taken whole)) → now_at b m s out size taken ≡ fed bytes start [] whole
+  pub settled : (bytes < size + room) ⊎ (length (drop taken whole) ≤ line_end (drop taken whole)) → now_at b m s out size taken ≡ fed bytes start [] whole
   settled q = sym (none bytes (now_at b m s out size taken) (drop taken whole) [] (stops q)) ∙ st.leads where
-    stops : (bytes < size + room) ⊎ (length whole ≤ taken + line_end (drop taken whole))
+    stops : (bytes < size + room) ⊎ (length (drop taken whole) ≤ line_end (drop taken whole))
         → ltb bytes (length (take size out) + room) ≡ false → length (drop taken whole) ≤ line_end (drop taken whole)
     stops (inl f) e =
         let lp : length (take size out) ≡ size = length-take-le size out hs in
         let r : bytes < length (take size out) + room = omega (arith, lp, f) in
         let z : length (take size out) + room ≤ bytes = ltb-false _ _ e in
         omega (arith, r, z)
-    stops (inr g) e =
-        let ld : length (drop taken whole) ≡ length whole - taken = length-drop taken whole in
-        omega (arith, ld, g)
+    stops (inr g) e = g
 
 -- what the call leaves is what the progress at the end says
 pub left_as : (b : Bench) (m s out out₀ : List ℕ) (size taken : ℕ) (f : Progress) → now_at b m s out size taken ≡ f → size ≤ length out → drop size out ≡ drop size out₀

@@ -1,53 +1,70 @@
 -- What the bench answers to a call (paper 01, "Bench cases"; docs/DECISIONS.md, "Bench"), by the chip's own definitions. Assumes nothing.
-use Rattle.std.specs.Prelude.{ℕ, ◌*◌, Bool, true, false, not, List, ◌++◌, length, take, drop, ◌==◌, nat_lt, if◌then◌else◌}
+use Rattle.std.specs.Prelude.{ℕ, ◌*◌, Bool, not, List, ◌++◌, length, take, drop, ◌==◌, nat_lt, if◌then◌else◌, Option, Some, None, Result, Ok, Err}
+use Rattle.reply.specs.Reply.{number}
+use Rattle.reply.specs.declared.Refusal.{Refusal}
 use Rattle.sector.specs.Address.{valid}
 use Rattle.sector.specs.Judge.{why}
 use Rattle.sector.specs.Layout.{agrees}
 use Rattle.sector.specs.declared.Address.{Address}
+use Rattle.chip.specs.Chip as chip
 use Rattle.chip.specs.Chip.{opened}
 use Rattle.chip.specs.Calls as calls
 use Rattle.chip.specs.declared.Chip.{Chip}
-use Rattle.chip.specs.declared.Told.{Told}
-use Rattle.chip.specs.declared.Word.{Word}
+use Rattle.chip.specs.Told.{Told}
+use Rattle.chip.specs.declared.Accepted as chip_accepted
 use Rattle.syntax.specs.declared.line.Line.{Line}
-use Rattle.syntax.specs.declared.line.Line.TheVariants.{Malformed, Open, Plain, Look, Take, Disc, Scratch, SetKind, SetSubheader}
+use Rattle.syntax.specs.declared.line.Line.TheVariants.{Open, Plain, Look, Take, Disc, Scratch, SetKind, SetSubheader}
 use Rattle.script.specs.Disc.{inside, known, four_bytes, arriving}
-use Rattle.script.specs.declared.call.Answer.{Answer}
+use Rattle.script.specs.declared.call.Accepted.{Accepted}
 use Rattle.script.specs.declared.disc.Carried.{Carried}
 use Rattle.syntax.specs.declared.print.Shown.{Shown}
 
+-- what is answered to a line: the chip that is open after it, if one is, the reply number and the result that is printed
+pub record Answer : Type 0 where
+  pub chip : Option Chip
+  pub number : ℕ
+  pub out : ℕ
+
 -- a refusal: its number, out 0, and the chip there was
-abbrev pub refused : Bool → Chip → ℕ → Answer
-refused o c number = record { opened = o; chip = c; number = number; out = 0 }
+abbrev pub refused : Option Chip → ℕ → Answer
+refused o number = record { chip = o; number = number; out = 0 }
+
+-- a call that is done
+abbrev pub done : Chip → ℕ → Answer
+done c out = record { chip = Some c; number = 0; out = out }
+
+-- the answer that a call's result stands for, where such a chip was open before it
+abbrev pub answer_of : Option Chip → Result Accepted Refusal → Answer
+answer_of o (Ok a) = done a.chip a.out
+answer_of o (Err r) = refused o (number r)
+
+-- what the chip accepted, for a private contract
+abbrev pub taken : chip_accepted.Accepted → Accepted
+taken a = record { chip = a.chip; out = a.value }
 
 -- the chip's own answer
 abbrev pub of_told : Told → Answer
-of_told t = record { opened = true; chip = t.chip; number = t.reply.number; out = t.reply.result }
+of_told t = record { chip = Some t.chip; number = t.reply.number; out = t.reply.result }
 
 -- a ring above 25 blocks, or one that the chip refuses, is 1 and keeps the chip there was
-unfoldable pub opening : Bool → Chip → ℕ → Answer
-opening o c n =
-    if nat_lt 25 n then refused o c 1
+unfoldable pub opening : Option Chip → ℕ → Answer
+opening o n =
+    if nat_lt 25 n then refused o 1
     else if (opened n).reply.number == 0 then of_told (opened n)
-    else refused o c 1
-
--- for a private contract: a refusal of the host word, passed on
-abbrev pub word_refused : Chip → Word → Answer
-word_refused c w = refused true c (calls.word_number w)
+    else refused o 1
 
 -- the host word: the chip after it, its number and its value
 unfoldable pub word : Chip → List ℕ → Answer
 word c ring =
     record {
-      opened = true;
-      chip = (calls.word_told c ring).chip;
+      chip = Some (calls.word_told c ring).chip;
       number = calls.word_number (calls.word_told c ring).word;
       out = calls.word_value (calls.word_told c ring).word;
     }
 
 -- the length in bytes of what a look shows
 abbrev pub look : Chip → List ℕ → Answer
-look c ring = record { opened = true; chip = c; number = 0; out = length (calls.looked c ring) }
+look c ring = done c (length (calls.looked c ring))
 
 -- what a call leaves: its answer, the memory that it was lent, and the sector buffer
 pub record Answered : Type 0 where
@@ -77,16 +94,15 @@ brought c ring s = record { answer = of_told (calls.sector_told c ring s); memor
 unfoldable pub disc : Chip → Carried → List ℕ → List ℕ → Address → ℕ → Answered
 disc c d ring s a byte =
     if disc_number c d ring s a byte == 0 then brought c ring (arriving d a byte)
-    else unchanged ring s (refused true c (disc_number c d ring s a byte))
+    else unchanged ring s (refused (Some c) (disc_number c d ring s a byte))
 
 -- a line that says something of the next sectors: 3 where its numbers are out of range
 unfoldable pub said : Chip → Bool → Answer
-said c in_range = record { opened = true; chip = c; number = if in_range then 0 else 3; out = 0 }
+said c in_range = record { chip = Some c; number = if in_range then 0 else 3; out = 0 }
 
 -- the calls of an open chip: only an accepted sector changes the ring and the buffer
 unfoldable pub called : Chip → Carried → List ℕ → List ℕ → Line → Answered
-called c d ring s Malformed = unchanged ring s (refused true c 2)
-called c d ring s (Open n) = unchanged ring s (opening true c n)
+called c d ring s (Open n) = unchanged ring s (opening (Some c) n)
 called c d ring s (Plain call) = unchanged ring s (of_told (calls.called c call))
 called c d ring s Look = unchanged ring s (look c ring)
 called c d ring s Take = unchanged ring s (word c ring)
@@ -96,16 +112,15 @@ called c d ring s (SetKind k) = unchanged ring s (said c (known k))
 called c d ring s (SetSubheader f h m i) = unchanged ring s (said c (four_bytes f h m i))
 
 -- before an accepted opening every other call is 5
-unfoldable pub closed : Chip → Line → Answer
-closed c Malformed = refused false c 2
-closed c (Open n) = opening false c n
-closed c (Plain call) = refused false c 5
-closed c Look = refused false c 5
-closed c Take = refused false c 5
-closed c (Disc a byte) = refused false c 5
-closed c (Scratch from count) = refused false c 5
-closed c (SetKind k) = refused false c 5
-closed c (SetSubheader f h m i) = refused false c 5
+unfoldable pub closed : Line → Answer
+closed (Open n) = opening None n
+closed (Plain call) = refused None 5
+closed Look = refused None 5
+closed Take = refused None 5
+closed (Disc a byte) = refused None 5
+closed (Scratch from count) = refused None 5
+closed (SetKind k) = refused None 5
+closed (SetSubheader f h m i) = refused None 5
 
 -- the ring of the open chip is the start of the lent memory, as long as its N blocks
 abbrev pub size : Chip → ℕ
@@ -115,11 +130,16 @@ size c = c.place.n * 2560
 abbrev pub with_rest : Answered → List ℕ → Answered
 with_rest a rest = record { answer = a.answer; memory = a.memory ++ rest; sector = a.sector }
 
--- with no chip open, and with one
-unfoldable pub answered : Bool → Chip → Carried → List ℕ → List ℕ → Line → Answered
-answered o c d m s line =
-    if not o then unchanged m s (closed c line)
-    else with_rest (called c d (take (size c) m) s line) (drop (size c) m)
+-- a line that the grammar has not is 2; one that it has, with no chip open, and with one
+unfoldable pub answered : Option Chip → Carried → List ℕ → List ℕ → Option Line → Answered
+answered o d m s None = unchanged m s (refused o 2)
+answered None d m s (Some line) = unchanged m s (closed line)
+answered (Some c) d m s (Some line) = with_rest (called c d (take (size c) m) s line) (drop (size c) m)
+
+-- the chip whose counters are printed: where none is open, a record of no blocks
+abbrev pub the_chip : Option Chip → Chip
+the_chip (Some c) = c
+the_chip None = chip.closed
 
 -- what the printed line shows: the answer, and after the call the counters, what failed of the last stored sector, and the interrupt
 abbrev pub shown : Answer → ℕ → Shown
@@ -128,8 +148,8 @@ shown a n =
       lines = n;
       number = a.number;
       out = a.out;
-      tcc = a.chip.controller.counts.tcc;
-      bufc = a.chip.controller.counts.bufc;
-      why = why a.chip.controller.judgement;
-      irq = a.chip.controller.hirq;
+      tcc = (the_chip a.chip).controller.counts.tcc;
+      bufc = (the_chip a.chip).controller.counts.bufc;
+      why = why (the_chip a.chip).controller.judgement;
+      irq = (the_chip a.chip).controller.hirq;
     }

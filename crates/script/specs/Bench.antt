@@ -1,18 +1,16 @@
 -- The bench: what a line does and prints (paper 01, "Bench cases"; docs/DECISIONS.md, "Bench"). Assumes nothing.
-use Rattle.std.specs.Prelude.{ℕ, ◌+◌, ◌%◌, ◌^◌, false, List, length, nat_lt, if◌then◌else◌}
-use Rattle.chip.specs.Chip.{opened}
+use Rattle.std.specs.Prelude.{ℕ, ◌+◌, ◌%◌, ◌^◌, List, length, nat_lt, if◌then◌else◌, None}
 use Rattle.syntax.specs.Grammar.{parse}
-use Rattle.script.specs.Answers.{Answered, answered, shown}
+use Rattle.script.specs.Answers.{Answer, Answered, answered, shown}
 use Rattle.syntax.specs.Print.{printed, room, over}
 use Rattle.script.specs.Disc.{at_first, carried_after}
-use Rattle.script.specs.declared.call.Answer.{Answer}
 use Rattle.script.specs.declared.disc.Carried.{Carried}
 use Rattle.script.specs.declared.Bench.{Bench}
 use Rattle.script.specs.declared.Ran.{Ran}
 
--- before any line: no chip is open, its record is that of a refused opening, and sectors carry what they do at first
+-- before any line: no chip is open, and sectors carry what they do at first
 abbrev pub started : Bench
-started = record { opened = false; chip = (opened 0).chip; carried = at_first; lines = 0 }
+started = record { chip = None; carried = at_first; lines = 0 }
 
 -- what a call of the bench leaves: its result, the memory, the sector buffer, and the buffer that is printed into
 pub record Left (A : Type 0) : Type 0 where
@@ -23,7 +21,7 @@ pub record Left (A : Type 0) : Type 0 where
 
 -- the answer to a line
 abbrev pub reply : Bench → List ℕ → List ℕ → List ℕ → Answered
-reply b m s line = answered b.opened b.chip b.carried m s (parse line)
+reply b m s line = answered b.chip b.carried m s (parse line)
 
 -- and what sectors carry after it, by its reply number
 abbrev pub carried_left : Bench → List ℕ → ℕ → Carried
@@ -35,7 +33,7 @@ count b = (b.lines + 1) % 2 ^ 64
 
 -- the bench after an answer
 abbrev pub after : Answer → Carried → ℕ → Bench
-after a d n = record { opened = a.opened; chip = a.chip; carried = d; lines = n }
+after a d n = record { chip = a.chip; carried = d; lines = n }
 
 -- the line printed
 abbrev pub text : Answer → ℕ → List ℕ

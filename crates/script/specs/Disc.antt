@@ -1,12 +1,12 @@
 -- What sector lines carry, and how the next one arrives (paper 02, asks 1 and 4; docs/DECISIONS.md, "Bench"): the kind and the subheader that were said
 -- last, and a run of bytes that are inverted, sync bytes too. They are the disc's and not the chip's. Assumes nothing.
-use Rattle.std.specs.Prelude.{ℕ, ◌+◌, ◌%◌, Bool, ◌&&◌, List, ◌++◌, take, drop, replicate, ◌==◌, nat_le, if◌then◌else◌}
+use Rattle.std.specs.Prelude.{ℕ, ◌+◌, ◌%◌, Bool, ◌&&◌, List, ◌++◌, take, drop, replicate, ◌==◌, nat_le, if◌then◌else◌, Option, Some, None}
 use Rattle.laws.specs.Bytes.{inverted}
 use Rattle.sector.specs.Calls.{seal_sector, no_subheader}
 use Rattle.sector.specs.declared.Address.{Address}
 use Rattle.sector.specs.declared.Subheader.{Subheader}
 use Rattle.syntax.specs.declared.line.Line.{Line}
-use Rattle.syntax.specs.declared.line.Line.TheVariants.{Malformed, Open, Plain, Look, Take, Disc, Scratch, SetKind, SetSubheader}
+use Rattle.syntax.specs.declared.line.Line.TheVariants.{Open, Plain, Look, Take, Disc, Scratch, SetKind, SetSubheader}
 use Rattle.script.specs.declared.disc.Damage.{Damage}
 use Rattle.script.specs.declared.disc.Carried.{Carried}
 
@@ -48,14 +48,18 @@ carried_by d (SetKind k) = record { kind = k; subheader = d.subheader; damage = 
 carried_by d (SetSubheader f h m i) = record { kind = d.kind; subheader = subheader_of f h m i; damage = d.damage }
 carried_by d (Disc a byte) = record { kind = d.kind; subheader = d.subheader; damage = undamaged }
 carried_by d (Open n) = at_first
-carried_by d Malformed = d
 carried_by d (Plain call) = d
 carried_by d Look = d
 carried_by d Take = d
 
+-- a line that the grammar has not says nothing
+abbrev pub carried_on : Carried → Option Line → Carried
+carried_on d None = d
+carried_on d (Some line) = carried_by d line
+
 -- a refused one leaves it
-unfoldable pub carried_after : Carried → Line → ℕ → Carried
-carried_after d line n = if n == 0 then carried_by d line else d
+unfoldable pub carried_after : Carried → Option Line → ℕ → Carried
+carried_after d line n = if n == 0 then carried_on d line else d
 
 -- a bench sector before it is sealed: every byte is the fill; sealing writes all but the kind's user bytes
 abbrev pub unsealed : ℕ → List ℕ

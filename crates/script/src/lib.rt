@@ -7,25 +7,29 @@ mod disc;
 mod lines;
 
 ghost use Rattle.std.specs.Prelude.{◌≡◌, ◌≤◌};
-ghost use Rattle.script.specs.Bench.{started, ran};
+ghost use Rattle.script.specs.Answers.{answer_of};
+ghost use Rattle.script.specs.Bench.{started, ran, after};
+ghost use Rattle.script.specs.Disc.{carried_after};
 ghost use Rattle.syntax.specs.Print.{longest};
 
+use call::Accepted;
 use chip::Chip;
 pub use disc::{Carried, Damage};
 pub use lines::{Fed, feed};
+use reply::Refusal;
+use syntax::line::Line;
 pub use syntax::print::ROOM;
 
-// Whether a chip is open, the chip, what sectors carry, and how many lines there have been.
-#[derive(Clone, Copy)]
+// The chip that is open, if one is, what sectors carry, and how many lines there have been.
+#[derive(Clone, Copy, Debug, PartialEq, Eq)]
 pub struct Bench {
-    pub opened: bool,
-    pub chip: Chip,
+    pub chip: Option<Chip>,
     pub carried: Carried,
     pub lines: u64,
 }
 
 // The bench after a line, and the length of the printed line.
-#[derive(Clone, Copy)]
+#[derive(Clone, Copy, Debug, PartialEq, Eq)]
 pub struct Ran {
     pub bench: Bench,
     pub size: usize,
@@ -37,19 +41,33 @@ impl Bench {
     pub fn start() -> Bench
         ensures { result ≡ started }
     {
-        let told = Chip::open(0);
-        let chip = told.chip;
         Bench {
-            opened: false,
-            chip: chip,
-            carried: disc::at_first(),
+            chip: None,
+            carried: Carried::at_first(),
             lines: 0,
+        }
+    }
+
+    // After a line, which is the last of so many. A refused one changes nothing but their number.
+    #[tactic(auto, unfolding(crate::specs::Disc::carried_after))]
+    fn after(self, line: Option<Line>, outcome: Result<Accepted, Refusal>, lines: u64) -> Bench
+        ensures { let answer = answer_of self.chip outcome in
+            result ≡ after answer (carried_after self.carried line answer.number) lines }
+    {
+        match outcome {
+            Ok(Accepted { chip, .. }) => Bench {
+                chip: Some(chip),
+                carried: line.map_or(self.carried, |line| self.carried.by_line(line)),
+                lines,
+            },
+            Err(_) => Bench { lines, ..self },
         }
     }
 
     // Runs one line, given without its end, and puts the line to print at the start of `out`; with less room than `ROOM` nothing is done.
     // The ring is the start of the memory; the sector is a buffer of 2,352 bytes, in which a sector line seals.
     // Ruled out: one that gives the chip a call before an accepted opening, and one that prints the counters as they were before the call.
+    #[tactic(auto, unfolding(crate::specs::Bench::ran))]
     pub fn run(self, memory: &mut [u8], sector: &mut [u8], line: &[u8], out: &mut [u8]) -> Ran
         ensures told { record { result = result; memory = memory.new; sector = sector.new; out = out.new }
             ≡ ran self memory.old sector.old line.now out.old }
@@ -61,22 +79,13 @@ impl Bench {
                 size: 0,
             };
         }
-        let parsed = syntax::line::parse(line);
-        let chip = self.chip;
-        let carried = self.carried;
-        let answer = call::run(self.opened, chip, carried, memory, sector, parsed);
-        let left = disc::carried_after(carried, parsed, answer.number);
-        let n = std::num::wrapping_add_u64(self.lines, 1);
-        let size = syntax::print::print(out, call::shown(answer, n));
-        let next = answer.chip;
+        let line = syntax::line::parse(line);
+        let outcome = call::run(self.chip, self.carried, memory, sector, line);
+        let lines = self.lines.wrapping_add(1);
+        let size = syntax::print::print(out, call::shown(self.chip, outcome, lines));
         Ran {
-            bench: Bench {
-                opened: answer.opened,
-                chip: next,
-                carried: left,
-                lines: n,
-            },
-            size: size,
+            bench: self.after(line, outcome, lines),
+            size,
         }
     }
 }

@@ -1,29 +1,23 @@
 // The lines of a text, run one after the other.
-ghost use Rattle.std.specs.Prelude.{◌≡◌, ◌+◌, ◌≤◌, length, drop};
-ghost use Rattle.script.specs.Feed.{fed_text, line_end};
+ghost use Rattle.std.specs.Prelude.{◌≡◌, ◌≤◌, ◌==◌, length, position};
+ghost use Rattle.script.specs.Feed.{fed_text};
 
 use crate::Bench;
 use syntax::print::ROOM;
 
 // The bench after some lines, how many bytes of the text they took, and how many were printed.
-#[derive(Clone, Copy)]
+#[derive(Clone, Copy, Debug, PartialEq, Eq)]
 pub struct Fed {
     pub bench: Bench,
     pub taken: usize,
     pub size: usize,
 }
 
-// The place of the first line end at or behind a place, or the text's length.
-fn line_end(text: &[u8], from: usize) -> usize
-    requires { from ≤ length text.now }
-    ensures value { result ≡ from + line_end (drop from text.now) }
-    ensures inside { result ≤ length text.now }
+// How many bytes stand before a text's first line end; none where it has no line end.
+fn line_end(text: &[u8]) -> Option<usize>
+    ensures { result ≡ position (λ b. b == 10) text.now }
 {
-    let mut i = from;
-    while i < text.len() && text[i] != b'\n' {
-        i += 1;
-    }
-    i
+    text.iter().position(|b| *b == b'\n')
 }
 
 // Runs the lines of a text that have an end, while there is room for an answer, and puts the answers one behind the other into `out`.
@@ -37,17 +31,15 @@ pub fn feed(start: Bench, memory: &mut [u8], sector: &mut [u8], text: &[u8], out
     let mut bench = start;
     let mut taken = 0;
     let mut size = 0;
-    let mut end = line_end(text, 0);
-    while end < text.len() && out.len() - size >= ROOM {
-        let ran = bench.run(memory, sector, &text[taken..end], &mut out[size..]);
+    while out.len() - size >= ROOM {
+        let rest = &text[taken..];
+        let Some(length) = line_end(rest) else {
+            break;
+        };
+        let ran = bench.run(memory, sector, &rest[..length], &mut out[size..]);
         bench = ran.bench;
         size += ran.size;
-        taken = end + 1;
-        end = line_end(text, taken);
+        taken += length + 1;
     }
-    Fed {
-        bench: bench,
-        taken: taken,
-        size: size,
-    }
+    Fed { bench, taken, size }
 }

@@ -1,31 +1,22 @@
 -- The cases of what the calls answer, as the code's returns have them, and what holds of an accepted call. Assumes nothing.
 use mathlib.Core.Path.{◌≡◌, refl, ap, ◌∙◌}
-use mathlib.Core.Bool.{Bool, true, false, not, ◌&&◌}
+use mathlib.Core.Bool.{Bool, true, false}
 use mathlib.Core.List.{List}
 use Prim.Native.Nat.{ℕ}
 use lib.ListN.{length}
 use lib.Dec.{eqb}
-use native.Mathlib.Omega.{arith}
 use borrow.Author.Tests.{eq-eqb, ne_eqb, eqb-true, eqb-false}
 use Rattle.laws.specs.Numbers.{weight}
 use Rattle.reply.specs.Reply.{refusal, answer}
 use Rattle.scramble.specs.Scramble.{scrambled}
 use Rattle.sector.specs.declared.Address.{Address}
 use Rattle.sector.specs.declared.Judgement.{Judgement}
-use Rattle.sector.specs.declared.Judged.{Judged}
+use Rattle.sector.specs.Calls.{Judged, seal_reply, seal_sector, open_reply, open_sector, refused, judge_answer, words_hold, parity_reply}
 use Rattle.sector.specs.declared.Subheader.{Subheader}
 use Rattle.sector.specs.Address.{valid}
 use Rattle.sector.specs.Layout.{agrees, layout, layout_read}
 use Rattle.sector.specs.Sector.{encoded, sealed}
-use Rattle.sector.specs.Judge.{sync_holds, mode_holds, edc_holds, address_holds, judgement}
-use Rattle.sector.specs.Calls.{seal_reply, seal_sector, open_reply, open_sector, refused, judge_answer, words_hold, parity_reply}
-
--- ---- the four facts from their tests
-
-pub four_facts : (a : Address) (s : List ℕ) {b c d e : Bool} → b ≡ sync_holds s → c ≡ mode_holds s → d ≡ edc_holds s → e ≡ address_holds a s
-    → record { sync = not b; mode = not c; edc = not d; address = not e } ≡ judgement a s
-unfolding judgement
-four_facts a s eb ec ed ee = simp (eb, ec, ed, ee)
+use Rattle.sector.specs.Judge.{judgement}
 
 -- a judgement is its four facts
 pub same_facts : (i j : Judgement) → i.sync ≡ j.sync → i.mode ≡ j.mode → i.edc ≡ j.edc → i.address ≡ j.address → i ≡ j
@@ -37,18 +28,9 @@ same_facts i j s m e a =
 
 -- ---- a sector of another length is refused
 
-module _ (s : List ℕ) (a : Address) (short : length s ≡ 2352 → ⊥) where
-  pub seal_short : (k : ℕ) (h : Subheader) → (refusal 1 ≡ seal_reply s a k h) × (s ≡ seal_sector s a k h)
-  unfolding seal_reply seal_sector
-  seal_short k h = (simp (ne_eqb (length s) 2352 short), simp (ne_eqb (length s) 2352 short))
-
-  pub judge_short : refused 1 ≡ judge_answer s a
-  unfolding judge_answer
-  judge_short = simp (ne_eqb (length s) 2352 short)
-
-pub open_short : (s : List ℕ) → (length s ≡ 2352 → ⊥) → (refusal 1 ≡ open_reply s) × (s ≡ open_sector s)
-unfolding open_reply open_sector
-open_short s short = (simp (ne_eqb (length s) 2352 short), simp (ne_eqb (length s) 2352 short))
+pub judge_short : (s : List ℕ) (a : Address) → (length s ≡ 2352 → ⊥) → refused 1 ≡ judge_answer s a
+unfolding judge_answer
+judge_short s a short = simp (ne_eqb (length s) 2352 short)
 
 -- ---- a sector of its length
 
@@ -58,10 +40,6 @@ open_done s full = (simp (eq-eqb (length s) 2352 full), simp (eq-eqb (length s) 
 
 module _ (s : List ℕ) (a : Address) (full : length s ≡ 2352) where
   module _ (k : ℕ) (h : Subheader) where
-    pub seal_not : (valid a && agrees k h) ≡ false → (refusal 3 ≡ seal_reply s a k h) × (s ≡ seal_sector s a k h)
-    unfolding seal_reply seal_sector
-    seal_not e = (simp (eq-eqb (length s) 2352 full, e), simp (eq-eqb (length s) 2352 full, e))
-
     pub seal_done : valid a ≡ true → agrees k h ≡ true → (answer 0 ≡ seal_reply s a k h) × (scrambled (encoded (layout k) a h s) ≡ seal_sector s a k h)
     unfolding seal_reply seal_sector sealed
     seal_done v w = (simp (eq-eqb (length s) 2352 full, v, w), simp (eq-eqb (length s) 2352 full, v, w))
@@ -81,12 +59,11 @@ accepted s a h = by_length (eqb (length s) 2352) refl
   where
     by_address : (b : Bool) → valid a ≡ b → length s ≡ 2352 → valid a ≡ true
     by_address true e full = e
-    by_address false e full = absurd (let z : 3 ≡ 0 = ap (λ (j : Judged). j.number) (judge_out s a full e) ∙ h in let w : ⊥ = omega arith in w)
+    by_address false e full = cc (judge_out s a full e)
 
     by_length : (b : Bool) → eqb (length s) 2352 ≡ b → (length s ≡ 2352) × (valid a ≡ true)
     by_length true e = let full = eqb-true (length s) 2352 e in (full, by_address (valid a) refl full)
-    by_length false e =
-        absurd (let z : 1 ≡ 0 = ap (λ (j : Judged). j.number) (judge_short s a (eqb-false (length s) 2352 e)) ∙ h in let w : ⊥ = omega arith in w)
+    by_length false e = cc (judge_short s a (eqb-false (length s) 2352 e))
 
 -- the facts of a judging that is answered 0
 pub judged_facts : (s : List ℕ) (a : Address) (j : Judgement) → judge_answer s a ≡ record { number = 0; judgement = j } → judgement a s ≡ j

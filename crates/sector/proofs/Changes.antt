@@ -88,7 +88,7 @@ module _ (s : List ℕ) (k v : ℕ) where
   mode_copies full new low high two held = ⊎_elim one copies (mode_cases s held)
     where
       one : get_or s 15 0 ≡ 1 → mode_holds (set s k v) ≡ false
-      one e = absurd (let z : ◌≡◌ {A = ℕ} 1 2 = sym e ∙ two in let w : ⊥ = omega arith in w)
+      one e = cc
 
       apart : take 4 (drop 16 s) ≡ take 4 (drop 20 s) → take 4 (drop 16 (set s k v)) ≡ take 4 (drop 20 (set s k v)) → ⊥
       apart e t =
@@ -122,7 +122,7 @@ mode_other s v full new kept held = ⊎_elim one two (mode_cases s held)
         odd_fails s v full (λ (t : v ≡ 1). new (t ∙ sym e))
         (λ (t : v ≡ 2).
         form_not_1 (get_or (set s 15 v) 18 0)
-        (sym (read_two (set s 15 v) (is ∙ t)) ∙ kept ∙ read_other s (λ (w : get_or s 15 0 ≡ 2). let z : ◌≡◌ {A = ℕ} 1 2 = sym e ∙ w in omega arith)))
+        (sym (read_two (set s 15 v) (is ∙ t)) ∙ kept ∙ read_other s (λ (w : get_or s 15 0 ≡ 2). cc)))
 
     two : (get_or s 15 0 ≡ 2) × (take 4 (drop 16 s) ≡ take 4 (drop 20 s)) → mode_holds (set s 15 v) ≡ false
     two e =

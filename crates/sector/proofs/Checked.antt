@@ -23,18 +23,16 @@ use Rattle.parity.specs.Parity.{with_parity, parity_holds}
 use Rattle.parity.proofs.Validity.{only_with}
 use Rattle.parity.proofs.Change as change
 use Rattle.parity.proofs.Change.{all_zeros}
-use Rattle.reply.specs.Reply.{answer}
-use Rattle.reply.specs.declared.Reply.{Reply}
+use Rattle.reply.specs.Reply.{answer, Reply}
 use Rattle.sector.specs.declared.Address.{Address}
 use Rattle.sector.specs.declared.Judgement.{Judgement}
-use Rattle.sector.specs.declared.Judged.{Judged}
+use Rattle.sector.specs.Calls.{Judged, seal_sector, open_sector, judge_answer, words_hold, parity_reply}
 use Rattle.sector.specs.declared.Subheader.{Subheader}
 use Rattle.sector.specs.declared.layout.Layout.{Layout}
 use Rattle.sector.specs.Address.{address_bytes}
 use Rattle.sector.specs.Layout.{subheader_bytes, kind_read, layout, layout_read, subheader_read, end, Fits}
 use Rattle.sector.specs.Sector.{sync, full_head, head, user, code_of, body, framed, encoded}
 use Rattle.sector.specs.Judge.{sync_holds, mode_holds, code_right, address_holds, judgement, no_facts}
-use Rattle.sector.specs.Calls.{seal_sector, open_sector, judge_answer, words_hold, parity_reply}
 use Rattle.sector.specs.Claims.{verdict}
 use Rattle.sector.proofs.Answers.{accepted, judged_facts, parity_short, parity_done}
 use Rattle.sector.proofs.Sealed.{opens}
@@ -44,15 +42,14 @@ use Rattle.sector.proofs.Changes.{kind_stays, mode_cases}
 -- a check that is answered 1 is of a whole sector whose parity holds
 weigh : (b : Bool) → answer (weight b 1) ≡ answer 1 → b ≡ true
 weigh true e = refl
-weigh false e = absurd (let z : 0 ≡ 1 = ap (λ (r : Reply). r.result) e in let w : ⊥ = omega arith in w)
+weigh false e = absurd (omega (arith, ap (λ (r : Reply). r.result) e))
 
 yes : (s : List ℕ) → parity_reply s ≡ answer 1 → (length s ≡ 2352) × (words_hold (layout_read s) s ≡ true)
 yes s e = by (eqb (length s) 2352) refl
   where
     by : (b : Bool) → eqb (length s) 2352 ≡ b → (length s ≡ 2352) × (words_hold (layout_read s) s ≡ true)
     by true f = let full = eqb-true (length s) 2352 f in (full, weigh (words_hold (layout_read s) s) (parity_done s full ∙ e))
-    by false f =
-        absurd (let z : 1 ≡ 0 = ap (λ (r : Reply). r.number) (parity_short s (eqb-false (length s) 2352 f) ∙ e) in let w : ⊥ = omega arith in w)
+    by false f = absurd (omega (arith, ap (λ (r : Reply). r.number) (parity_short s (eqb-false (length s) 2352 f) ∙ e)))
 
 says : (s : List ℕ) (b : Bool) → length s ≡ 2352 → words_hold (layout_read s) s ≡ b → parity_reply s ≡ answer (weight b 1)
 says s b full e = sym (parity_done s full) ∙ ap (λ (x : Bool). answer (weight x 1)) e
@@ -176,7 +173,7 @@ module _ (s : List ℕ) (a : Address) (full : length s ≡ 2352) (good : judgeme
     where
       one : get_or s 15 0 ≡ 1 → take l.user s ≡ head l a h
       one e =
-          let kind = read_other s (λ (t : get_or s 15 0 ≡ 2). let z : ◌≡◌ {A = ℕ} 1 2 = sym e ∙ t in omega arith) in
+          let kind = read_other s (λ (t : get_or s 15 0 ≡ 2). cc) in
           ap (λ (n : ℕ). take (layout n).user s) kind
           ∙ first_16 ∙ ap (λ (x : ℕ). sync ++ address_bytes a ++ x ∷ []) e
           ∙ sym (ap (λ (n : ℕ). head (layout n) a h) kind)

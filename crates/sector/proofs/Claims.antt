@@ -1,8 +1,9 @@
 -- The claims of specs/Claims.antt are proved. Assumes nothing.
+use Rattle.std.proofs.Common.{rules}
 use mathlib.Core.Path.{◌≡◌, refl, ap, ◌∙◌}
 use mathlib.Core.Bool.{Bool, true, false, not, ◌&&◌, ◌||◌}
 use mathlib.Core.Logic.{◌⊎◌, ⊎_elim}
-use mathlib.Core.List.{List, [], ◌∷◌}
+use mathlib.Core.List.{List}
 use Prim.Native.Nat.{ℕ, ◌<◌}
 use native.Mathlib.Omega.{arith}
 use lib.Dec.{eqb}
@@ -138,7 +139,7 @@ after_valid = refl
 
 not_start : after ≡ start → ⊥
 unfolding start after
-not_start e = let z : ◌≡◌ {A = ℕ} 1 0 = ap (λ (a : Address). a.frame) e in omega arith
+not_start e = omega (arith, ap (λ (a : Address). a.frame) e)
 
 -- a subheader with that submode
 with_submode : ℕ → Subheader
@@ -154,8 +155,7 @@ audio_agrees = refl
 
 submode_bytes : (x : ℕ) → x < 256 → Bytes (subheader_bytes (with_submode x))
 unfolding with_submode
-submode_bytes x b =
-    bytes_cons 0 (0 ∷ x ∷ 0 ∷ []) (omega arith) (bytes_cons 0 (x ∷ 0 ∷ []) (omega arith) (bytes_cons x (0 ∷ []) b (bytes_cons 0 [] (omega arith) bytes_nil)))
+submode_bytes x b = search (rules, bytes_cons, bytes_nil)
 
 pub premises_met : MetClaim
 premises_met = record {

@@ -18,12 +18,11 @@ use Rattle.laws.proofs.Wrap.{lt_or_ge}
 use Rattle.laws.proofs.Tests.{clash, and_last, or_first, or_true, or_false, or_right, exactly, out_of_run}
 use Rattle.sector.specs.declared.Address.{Address}
 use Rattle.sector.specs.declared.Judgement.{Judgement}
-use Rattle.sector.specs.declared.Judged.{Judged}
+use Rattle.sector.specs.Calls.{Judged, judge_answer}
 use Rattle.sector.specs.Address.{address_bytes}
 use Rattle.sector.specs.Layout.{kind_read, layout, layout_read}
 use Rattle.sector.specs.Sector.{sync}
 use Rattle.sector.specs.Judge.{sync_holds, mode_holds, code_right, unwritten, edc_holds, address_holds, judgement, no_facts, good}
-use Rattle.sector.specs.Calls.{judge_answer}
 use Rattle.sector.specs.Claims.{PlacesClaim, verdict, of_mode, of_edc, ChangeClaim, facts_of_change, DamageClaim, FoundClaim}
 use Rattle.sector.proofs.Answers.{same_facts, accepted, judge_done, judged_facts}
 use Rattle.sector.proofs.Changes.{kind_stays, mode_away, mode_copies, mode_other, odd_fails, unwritten_away, edc_away, edc_found}

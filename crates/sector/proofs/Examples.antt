@@ -1,5 +1,6 @@
 -- A sector of each kind for each of the sixteen judgements, IndependentClaim: its first 24 bytes are right or have a wrong sync byte, mode byte or copy
 -- of the subheader, its code is worked out or another, and it is judged at its own address, 00:02:00, or at the next. Assumes nothing.
+use Rattle.std.proofs.Common.{rules}
 use mathlib.Core.Path.{◌≡◌, refl, sym, ap, ap₂, ◌∙◌}
 use mathlib.Core.Bool.{Bool, true, false, not, ◌&&◌, ◌||◌}
 use mathlib.Core.List.{List, [], ◌∷◌, ◌++◌}
@@ -86,13 +87,7 @@ unfolding first_bytes
 first_small b h m x d =
     bytes_append ((if b then 1 else 0) ∷ 255 ∷ 255 ∷ 255 ∷ 255 ∷ 255 ∷ 255 ∷ 255 ∷ 255 ∷ 255 ∷ 255 ∷ 0 ∷ 0 ∷ 2 ∷ 0 ∷ [])
     (h.mode ∷ 0 ∷ 0 ∷ h.submode ∷ 0 ∷ h.differs ∷ 0 ∷ h.submode ∷ 0 ∷ []) (fixed b)
-    (bytes_cons h.mode (0 ∷ 0 ∷ h.submode ∷ 0 ∷ h.differs ∷ 0 ∷ h.submode ∷ 0 ∷ []) m
-    (bytes_cons 0 (0 ∷ h.submode ∷ 0 ∷ h.differs ∷ 0 ∷ h.submode ∷ 0 ∷ []) (omega arith)
-    (bytes_cons 0 (h.submode ∷ 0 ∷ h.differs ∷ 0 ∷ h.submode ∷ 0 ∷ []) (omega arith)
-    (bytes_cons h.submode (0 ∷ h.differs ∷ 0 ∷ h.submode ∷ 0 ∷ []) x
-    (bytes_cons 0 (h.differs ∷ 0 ∷ h.submode ∷ 0 ∷ []) (omega arith)
-    (bytes_cons h.differs (0 ∷ h.submode ∷ 0 ∷ []) d
-    (bytes_cons 0 (h.submode ∷ 0 ∷ []) (omega arith) (bytes_cons h.submode (0 ∷ []) x (bytes_cons 0 [] (omega arith) bytes_nil)))))))))
+    (search (rules, bytes_cons, bytes_nil) depth 12)
   where
     fixed : (b : Bool) → Bytes ((if b then 1 else 0) ∷ 255 ∷ 255 ∷ 255 ∷ 255 ∷ 255 ∷ 255 ∷ 255 ∷ 255 ∷ 255 ∷ 255 ∷ 0 ∷ 0 ∷ 2 ∷ 0 ∷ [])
     fixed true = bytes_of (1 ∷ 255 ∷ 255 ∷ 255 ∷ 255 ∷ 255 ∷ 255 ∷ 255 ∷ 255 ∷ 255 ∷ 255 ∷ 0 ∷ 0 ∷ 2 ∷ 0 ∷ []) refl
@@ -100,10 +95,7 @@ first_small b h m x d =
 
 code_small : (b : Bool) (e : ℕ) → Bytes (code_bytes b e)
 unfolding code_bytes
-code_small true e =
-    bytes_cons (other_byte e) (e / 256 % 256 ∷ e / 65536 % 256 ∷ e / 16777216 % 256 ∷ []) (other_small e)
-    (bytes_cons (e / 256 % 256) (e / 65536 % 256 ∷ e / 16777216 % 256 ∷ []) (omega arith)
-    (bytes_cons (e / 65536 % 256) (e / 16777216 % 256 ∷ []) (omega arith) (bytes_cons (e / 16777216 % 256) [] (omega arith) bytes_nil)))
+code_small true e = let o = other_small e in search (rules, bytes_cons, bytes_nil)
 code_small false e = bytes_low4 e
 
 -- as it stands it is right; the other one is neither right nor none

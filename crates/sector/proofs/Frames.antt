@@ -1,9 +1,10 @@
 -- The laws of sectors before they are scrambled, over any layout: how the code's copies frame one, and what stands where in it. Assumes nothing.
+use Rattle.std.proofs.Common.{rules}
 use mathlib.Core.Path.{◌≡◌, refl, sym, ap, ap₂, ◌∙◌}
 use mathlib.Core.Bool.{Bool, true, false}
 use mathlib.Core.List.{List, [], ◌∷◌, ◌++◌, append_assoc, append-nil}
 use mathlib.Core.Logic.{⊎_elim}
-use Prim.Native.Nat.{ℕ, ◌+◌, ◌*◌, ◌-◌, ◌/◌, ◌%◌, ◌^◌, ◌<◌, ◌≤◌}
+use Prim.Native.Nat.{ℕ, ◌+◌, ◌*◌, ◌-◌, ◌%◌, ◌^◌, ◌<◌, ◌≤◌}
 use native.Mathlib.Nat.{le_of_eq}
 use native.Mathlib.Omega.{arith}
 use lib.ListN.{length, take, drop, get_or, replicate, length-append, length-drop, length-replicate, drop_of_length-le}
@@ -62,37 +63,23 @@ module _ (l : Layout) (a : Address) (h : Subheader) (f : Fits l) where
         ∙ drop-append-add (head l a h) (drop l.user s) (end l - l.user)
         ∙ drop-drop (end l - l.user) l.user s ∙ ap (λ (n : ℕ). drop n s) rest
 
--- the head is copied to the front: 16 bytes of all 24, or all of them
-pub head_16 : (l : Layout) (a : Address) (h : Subheader) (s hd y : List ℕ) → l.user ≡ 16 → hd ≡ full_head l.mode a h → y ≡ take 16 hd
-    → y ++ drop 16 s ≡ head l a h ++ drop l.user s
-head_16 l a h s hd y u e f =
-    ap₂ (λ (x z : List ℕ). x ++ z) (f ∙ ap (take 16) e ∙ ap (λ (n : ℕ). take n (full_head l.mode a h)) (sym u)) (ap (λ (n : ℕ). drop n s) (sym u))
-
-pub head_24 : (l : Layout) (a : Address) (h : Subheader) (s hd y : List ℕ) → l.user ≡ 24 → hd ≡ full_head l.mode a h → y ≡ hd
-    → y ++ drop 24 s ≡ head l a h ++ drop l.user s
-head_24 l a h s hd y u e f =
-    ap₂ (λ (x z : List ℕ). x ++ z) (f ∙ e ∙ ap (λ (n : ℕ). take n (full_head l.mode a h)) (sym u)) (ap (λ (n : ℕ). drop n s) (sym u))
-
 -- the code with n zeros behind it
 length_code : (e n : ℕ) → length (low4 e ++ replicate n 0) ≡ 4 + n
 length_code e n = length-append (low4 e) (replicate n 0) ∙ ap (λ (k : ℕ). 4 + k) (length-replicate {A = ℕ} n 0)
 
-pub tail_copied : (e n m : ℕ) (xs s y : List ℕ) → xs ≡ low4 e ++ replicate n 0 → m ≡ 4 + n → y ≡ xs
-    → y ++ drop m s ≡ (low4 e ++ replicate n 0) ++ drop (4 + n) s
-tail_copied e n m xs s y same size f = ap₂ (λ (x z : List ℕ). x ++ z) (f ∙ same) (ap (λ (k : ℕ). drop k s) size)
-
 -- d is a buffer s with its head, and e what is behind the bytes that the code is taken over, with code and zeros
-pub made : (l : Layout) (a : Address) (h : Subheader) (s d e : List ℕ) → Fits l → d ≡ head l a h ++ drop l.user s
-    → e ≡ (low4 (edc 0 (mid_of l.covered (l.code - l.covered) d)) ++ replicate l.zeros 0) ++ drop (4 + l.zeros) (mid_of l.code (length d - l.code) d)
-    → put_mid l.code (length d - l.code) d e ≡ framed l a h s ++ drop (end l) s
+pub made : (l : Layout) (a : Address) (h : Subheader) (s d e : List ℕ) (n : ℕ) → Fits l → n ≡ length d → d ≡ head l a h ++ drop l.user s
+    → e ≡ (low4 (edc 0 (mid_of l.covered (l.code - l.covered) d)) ++ replicate l.zeros 0) ++ drop (4 + l.zeros) (mid_of l.code (n - l.code) d)
+    → put_mid l.code (n - l.code) d e ≡ framed l a h s ++ drop (end l) s
 unfolding framed
-made l a h s d e f d_is e_is =
+made l a h s d e n f long d_is e_is =
     let b : take l.code d ≡ body l a h s = ap (take l.code) d_is ∙ front l a h f s in
     let c : low4 (edc 0 (mid_of l.covered (l.code - l.covered) d)) ≡ code_of l (body l a h s) =
     ap (λ (x : List ℕ). low4 (edc 0 x)) (covered_part l d f ∙ ap (drop l.covered) b) in
-    let rest : drop (4 + l.zeros) (mid_of l.code (length d - l.code) d) ≡ drop (end l) s =
-    ap (drop (4 + l.zeros)) (mid_rest l.code d) ∙ drop-drop (4 + l.zeros) l.code d ∙ ap (drop (end l)) d_is ∙ behind l a h f s in
-    put_rest l.code d e
+    let rest : drop (4 + l.zeros) (mid_of l.code (n - l.code) d) ≡ drop (end l) s =
+    ap (λ (k : ℕ). drop (4 + l.zeros) (mid_of l.code (k - l.code) d)) long
+    ∙ ap (drop (4 + l.zeros)) (mid_rest l.code d) ∙ drop-drop (4 + l.zeros) l.code d ∙ ap (drop (end l)) d_is ∙ behind l a h f s in
+    ap (λ (k : ℕ). put_mid l.code (k - l.code) d e) long ∙ put_rest l.code d e
     ∙ ap₂ (λ (x y : List ℕ). x ++ y) b (e_is ∙ ap₂ (λ (x y : List ℕ). (x ++ replicate l.zeros 0) ++ y) c rest)
     ∙ sym (append_assoc (body l a h s) (code_of l (body l a h s) ++ replicate l.zeros 0) (drop (end l) s))
 
@@ -261,15 +248,8 @@ encoded_by_user l a h s t e =
 
 -- ---- its bytes
 
-mod_byte : (n : ℕ) → n % 256 < 256
-mod_byte n = omega arith
-
 pub bytes_low4 : (e : ℕ) → Bytes (low4 e)
-bytes_low4 e =
-    bytes_cons (e % 256) (e / 256 % 256 ∷ e / 65536 % 256 ∷ e / 16777216 % 256 ∷ []) (mod_byte e)
-    (bytes_cons (e / 256 % 256) (e / 65536 % 256 ∷ e / 16777216 % 256 ∷ []) (mod_byte (e / 256))
-    (bytes_cons (e / 65536 % 256) (e / 16777216 % 256 ∷ []) (mod_byte (e / 65536))
-    (bytes_cons (e / 16777216 % 256) [] (mod_byte (e / 16777216)) bytes_nil)))
+bytes_low4 e = search (rules, bytes_cons, bytes_nil)
 
 module _ (l : Layout) (a : Address) (h : Subheader) (s : List ℕ) (f : Fits l) (v : valid a ≡ true) (hh : Bytes (subheader_bytes h)) (hs : Bytes s) where
   mode_small : l.mode < 256

@@ -75,9 +75,6 @@ module _ (l : Layout) (f : Fits l) where
   pub user_to : l.user ≤ 24
   user_to = ⊎_elim (λ (e : (l.mode ≡ 1) × (l.user ≡ 16)). omega (arith, e.1)) (λ (e : (l.mode ≡ 2) × (l.user ≡ 24)). omega (arith, e.1)) f.head
 
-  pub user_24 : (l.user ≡ 16 → ⊥) → l.user ≡ 24
-  user_24 n = ⊎_elim (λ (e : (l.mode ≡ 1) × (l.user ≡ 16)). absurd (n e.1)) (λ (e : (l.mode ≡ 2) × (l.user ≡ 24)). e.1) f.head
-
 -- what only one of them has
 module _ (P : Layout → Type 0) (k : ℕ) where
   by_kind : (k ≡ 2 → P form_1) → (k ≡ 3 → P form_2) → P mode_1 → P (layout k)
@@ -113,7 +110,7 @@ module _ (x : ℕ) where
   form_cases = if_case (λ (n : ℕ). (n ≡ 3) ⊎ (n ≡ 2)) (eqb (x / 32 % 2) 1) 3 2 (λ _. inl refl) (λ _. inr refl)
 
   pub form_not_1 : form x ≡ 1 → ⊥
-  form_not_1 e = ⊎_elim (λ (t : form x ≡ 3). let z : ◌≡◌ {A = ℕ} 3 1 = sym t ∙ e in omega arith) (λ (t : form x ≡ 2). let z : ◌≡◌ {A = ℕ} 2 1 = sym t ∙ e in omega arith) form_cases
+  form_not_1 e = ⊎_elim (λ (t : form x ≡ 3). cc) (λ (t : form x ≡ 2). cc) form_cases
 
   pub form_mode : ((layout (form x)).mode ≡ 2) × ((layout (form x)).user ≡ 24)
   unfolding layout
@@ -139,12 +136,6 @@ module _ (s : List ℕ) where
 
   pub other_read : kind_read s ≡ 1 → get_or s 15 0 ≡ 2 → ⊥
   other_read one two = form_not_1 (get_or s 18 0) (sym (read_two two) ∙ one)
-
-  pub read_cases : (kind_read s ≡ 1) ⊎ ((kind_read s ≡ 2) ⊎ (kind_read s ≡ 3))
-  unfolding kind_read
-  read_cases =
-      if_case (λ (n : ℕ). (n ≡ 1) ⊎ ((n ≡ 2) ⊎ (n ≡ 3))) (eqb (get_or s 15 0) 2) (form (get_or s 18 0)) 1
-      (λ _. ⊎_elim (λ (t : form (get_or s 18 0) ≡ 3). inr (inr t)) (λ (t : form (get_or s 18 0) ≡ 2). inr (inl t)) (form_cases (get_or s 18 0))) (λ _. inl refl)
 
   -- mode 2 is the mode of the layout that is read where it is the mode byte
   pub mode_read : eqb (layout (kind_read s)).mode 2 ≡ eqb (get_or s 15 0) 2

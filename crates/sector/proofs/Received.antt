@@ -1,12 +1,10 @@
 -- The laws of a received sector. Assumes nothing.
-use mathlib.Core.Path.{◌≡◌, ap, ◌∙◌}
+use mathlib.Core.Path.{◌≡◌, ap}
 use mathlib.Core.List.{List}
 use Prim.Native.Nat.{ℕ}
 use lib.ListN.{length}
-use Rattle.scramble.specs.Scramble.{scrambled}
 use Rattle.scramble.proofs.Scrambled.{length_scrambled}
 use Rattle.sector.specs.declared.Address.{Address}
-use Rattle.sector.specs.declared.Judgement.{Judgement}
 use Rattle.sector.specs.declared.Subheader.{Subheader}
 use Rattle.sector.specs.declared.layout.Layout.{Layout}
 use Rattle.sector.specs.Layout.{Fits}
@@ -16,12 +14,6 @@ use Rattle.sector.specs.Receive.{received}
 use Rattle.sector.proofs.Sealed.{opened}
 
 module _ (e : Address) (s : List ℕ) where
-  -- what the code descrambles and judges
-  pub taken : (d : List ℕ) (j : Judgement) → d ≡ scrambled s → j ≡ judgement e d → record { bytes = d; judgement = j } ≡ received e s
-  unfolding received
-  taken d j ed ej =
-      ap (λ (x : Judgement). record { bytes = d; judgement = x }) ej ∙ ap (λ (l : List ℕ). record { bytes = l; judgement = judgement e l }) ed
-
   pub length_received : length s ≡ 2352 → length (received e s).bytes ≡ 2352
   unfolding received
   length_received full = length_scrambled s full

@@ -5,14 +5,13 @@ use Rattle.laws.specs.Numbers.{weight}
 use Rattle.reply.specs.Reply.{answer}
 use Rattle.sector.specs.declared.Address.{Address}
 use Rattle.sector.specs.declared.Judgement.{Judgement}
-use Rattle.sector.specs.declared.Judged.{Judged}
+use Rattle.sector.specs.Calls.{Judged, seal_reply, seal_sector, open_sector, judge_answer, parity_reply}
 use Rattle.sector.specs.declared.Subheader.{Subheader}
 use Rattle.sector.specs.declared.layout.Layout.{Layout}
 use Rattle.sector.specs.Address.{valid, next, address_of}
 use Rattle.sector.specs.Layout.{subheader_bytes, agrees, kind_read, layout, layout_read, subheader_read, end}
 use Rattle.sector.specs.Sector.{user}
 use Rattle.sector.specs.Judge.{sync_holds, mode_holds, code_right, unwritten, edc_holds, address_holds, judgement, no_facts, good, tarsta_byte, why}
-use Rattle.sector.specs.Calls.{seal_reply, seal_sector, open_sector, judge_answer, parity_reply}
 
 -- an accepted judging with these facts
 abbrev pub verdict : Judgement → Judged

@@ -1,8 +1,22 @@
 -- The kinds of a sector and their layout as data (ECMA-130, clause 14; paper 01, "Sectors"; paper 02, ask 4): kind 1 is mode 1, kind 2 is mode 2 form 1,
 -- kind 3 is mode 2 form 2. Assumes nothing.
-use Rattle.std.specs.Prelude.{◌≡◌, Bool, true, false, ◌||◌, List, [], ◌∷◌, ◌⊎◌, ℕ, ◌+◌, ◌/◌, ◌%◌, ◌≤◌, eqb, get_or, if◌then◌else◌}
+use Rattle.std.specs.Prelude.{◌≡◌, Bool, true, false, ◌||◌, List, [], ◌∷◌, ◌⊎◌, ℕ, ◌+◌, ◌/◌, ◌%◌, ◌<◌, ◌≤◌, eqb, get_or, if◌then◌else◌, Result, MatchResult}
+use Rattle.reply.specs.declared.Refusal.{Refusal}
+use Rattle.reply.specs.declared.Refusal.TheVariants.{OutOfRange}
 use Rattle.sector.specs.declared.Subheader.{Subheader}
+use Rattle.sector.specs.declared.layout.Kind.{Kind}
+use Rattle.sector.specs.declared.layout.Kind.TheVariants.{Mode1, Form1, Form2}
 use Rattle.sector.specs.declared.layout.Layout.{Layout}
+
+-- the number of a kind
+abbrev pub kind_number : Kind → ℕ
+kind_number Mode1 = 1
+kind_number Form1 = 2
+kind_number Form2 = 3
+
+-- the kind of a number; one that is none is out of range
+abbrev pub KindOf : ℕ → Result Kind Refusal → Type 0
+KindOf n r = MatchResult r (λ k. kind_number k ≡ n) (λ e. ((n ≡ 0) ⊎ (3 < n)) × (e ≡ OutOfRange))
 
 -- the four bytes of a subheader
 abbrev pub subheader_bytes : Subheader → List ℕ
@@ -38,6 +52,10 @@ form_2 = record { mode = 2; user = 24; covered = 16; code = 2348; zeros = 0; opt
 -- the layout of a kind; a number that is none has mode 1's, and no call asks for it
 unfoldable pub layout : ℕ → Layout
 layout k = if eqb k 2 then form_1 else if eqb k 3 then form_2 else mode_1
+
+-- the same of a kind as the code has it
+abbrev pub layout_of : Kind → Layout
+layout_of k = layout (kind_number k)
 
 -- the layout that a descrambled sector is judged by
 abbrev pub layout_read : List ℕ → Layout

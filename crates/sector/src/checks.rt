@@ -1,89 +1,70 @@
 // The tests that a sector is judged by.
-ghost use Rattle.std.specs.Prelude.{◌≡◌, true, length};
-ghost use Rattle.sector.specs.Address.{valid};
-ghost use Rattle.sector.specs.Layout.{Fits};
+ghost use Rattle.std.specs.Prelude.{◌≡◌};
+ghost use Rattle.sector.specs.Layout.{layout_of};
 ghost use Rattle.sector.specs.Judge.{sync_holds, mode_holds, code_right, unwritten, edc_holds, address_holds, judgement};
 
-use super::layout::{Layout, kind_read, layout_of};
-use super::{Address, Judgement, frame, header};
-use slices::equal;
+use super::frame::SYNC;
+use super::header::is_bcd_of;
+use super::layout::Kind;
+use super::{Address, Judgement, LENGTH};
 
-fn sync_holds(sector: &[u8]) -> bool
-    requires { length sector.now ≡ 2352 }
+#[tactic(auto, unfolding(crate::specs::Judge::sync_holds))]
+fn sync_holds(sector: &[u8; LENGTH]) -> bool
     ensures { result ≡ sync_holds sector.now }
 {
-    equal(&sector[..12], &frame::SYNC)
+    sector.starts_with(&SYNC)
 }
 
-fn mode_holds(sector: &[u8]) -> bool
-    requires { length sector.now ≡ 2352 }
+#[tactic(auto, unfolding(crate::specs::Judge::mode_holds))]
+fn mode_holds(sector: &[u8; LENGTH]) -> bool
     ensures { result ≡ mode_holds sector.now }
 {
-    let copies = equal(&sector[16..20], &sector[20..24]);
-    (sector[15] == 1) | ((sector[15] == 2) & copies)
+    sector[15] == 1 || (sector[15] == 2 && sector[16..20] == sector[20..24])
 }
 
-fn code_right(sector: &[u8], layout: Layout) -> bool
-    requires sector_len { length sector.now ≡ 2352 }
-    requires fits { Fits layout }
-    ensures { result ≡ code_right layout sector.now }
+fn code_right(sector: &[u8; LENGTH], kind: Kind) -> bool
+    ensures { result ≡ code_right (layout_of kind) sector.now }
 {
-    let from = layout.covered;
-    let to = layout.code;
-    let code = frame::code_bytes(edc::edc(&sector[from..to]));
-    equal(&sector[to..to + 4], &code)
+    let layout = kind.layout();
+    let edc = edc::edc(&sector[layout.covered..layout.code]);
+    sector[layout.code..layout.code + 4] == edc.to_le_bytes()[..]
 }
 
-fn unwritten(sector: &[u8], layout: Layout) -> bool
-    requires sector_len { length sector.now ≡ 2352 }
-    requires fits { Fits layout }
-    ensures { result ≡ unwritten layout sector.now }
+#[tactic(auto, unfolding(crate::specs::Judge::unwritten))]
+fn unwritten(sector: &[u8; LENGTH], kind: Kind) -> bool
+    ensures { result ≡ unwritten (layout_of kind) sector.now }
 {
-    let at = layout.code;
-    let zero = [0u8; 4];
-    layout.optional & equal(&sector[at..at + 4], &zero)
+    let layout = kind.layout();
+    layout.optional && sector[layout.code..].starts_with(&[0; 4])
 }
 
 // A code that is none is not worked out.
-fn edc_holds(sector: &[u8]) -> bool
-    requires { length sector.now ≡ 2352 }
+#[tactic(auto, unfolding(crate::specs::Judge::edc_holds))]
+fn edc_holds(sector: &[u8; LENGTH]) -> bool
     ensures { result ≡ edc_holds sector.now }
 {
-    let layout = layout_of(kind_read(sector));
-    if unwritten(sector, layout) {
-        return true;
-    }
-    code_right(sector, layout)
+    let kind = Kind::read(sector);
+    unwritten(sector, kind) || code_right(sector, kind)
 }
 
-fn address_holds(sector: &[u8], address: Address) -> bool
-    requires sector_len { length sector.now ≡ 2352 }
-    requires address_value { valid address ≡ true }
+#[tactic(auto, unfolding(crate::specs::Judge::address_holds))]
+fn address_holds(sector: &[u8; LENGTH], address: Address) -> bool
     ensures { result ≡ address_holds address sector.now }
 {
-    if !header::is_bcd_of(sector[12], address.minute) {
-        return false;
-    }
-    if !header::is_bcd_of(sector[13], address.second) {
-        return false;
-    }
-    header::is_bcd_of(sector[14], address.frame)
+    is_bcd_of(sector[12], address.minute)
+        && is_bcd_of(sector[13], address.second)
+        && is_bcd_of(sector[14], address.frame)
 }
 
 // Each test is made, whatever the others say. The address comes first, so that it need not be kept while the code is worked out.
-pub fn judgement_of(sector: &[u8], address: Address) -> Judgement
-    requires sector_len { length sector.now ≡ 2352 }
-    requires address_value { valid address ≡ true }
+#[tactic(auto, unfolding(crate::specs::Judge::judgement))]
+pub(crate) fn judgement_of(sector: &[u8; LENGTH], address: Address) -> Judgement
     ensures { result ≡ judgement address sector.now }
 {
-    let header = address_holds(sector, address);
-    let sync = sync_holds(sector);
-    let mode = mode_holds(sector);
-    let edc = edc_holds(sector);
     Judgement {
-        sync: !sync,
-        mode: !mode,
-        edc: !edc,
-        address: !header,
+        address: !address_holds(sector, address),
+        sync: !sync_holds(sector),
+        mode: !mode_holds(sector),
+        edc: !edc_holds(sector),
     }
 }

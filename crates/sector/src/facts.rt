@@ -1,28 +1,15 @@
-// The four facts of a judgement, and what is made of them.
+// What is made of the four facts of a judgement.
 ghost use Rattle.std.specs.Prelude.{◌≡◌};
-ghost use Rattle.sector.specs.Judge.{no_facts, staerr, good, tarsta_byte, why};
+ghost use Rattle.sector.specs.Judge.{staerr, good, tarsta_byte, why};
 
 use super::Judgement;
 use numbers::weight;
 
 impl Judgement {
-    // Nothing failed, or nothing was judged.
-    // Ruled out: one with a fact set, whichever.
-    pub fn none() -> Judgement
-        ensures { result ≡ no_facts }
-    {
-        Judgement {
-            sync: false,
-            mode: false,
-            edc: false,
-            address: false,
-        }
-    }
-
     fn staerr(self) -> bool
         ensures { result ≡ staerr self }
     {
-        self.sync | (self.mode | self.edc)
+        self.sync || self.mode || self.edc
     }
 
     // Whether nothing failed.
@@ -30,7 +17,7 @@ impl Judgement {
     pub fn good(self) -> bool
         ensures { result ≡ good self }
     {
-        !(self.staerr() | self.address)
+        !self.staerr() && !self.address
     }
 
     // The byte of TARSTA (80h).
@@ -38,8 +25,7 @@ impl Judgement {
     pub fn tarsta(self) -> u16
         ensures { result ≡ tarsta_byte self }
     {
-        let staerr = self.staerr();
-        weight(staerr, 0x40) + weight(self.address, 0x01)
+        weight(self.staerr(), 0x40) + weight(self.address, 0x01)
     }
 
     // The four as one number.

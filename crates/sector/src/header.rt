@@ -10,46 +10,43 @@ impl Address {
     pub fn valid(self) -> bool
         ensures { result ≡ valid self }
     {
-        if 99 < self.minute {
-            return false;
-        }
-        if 59 < self.second {
-            return false;
-        }
-        self.frame <= 74
+        self.minute <= 99 && self.second <= 59 && self.frame <= 74
     }
 
     // The address that follows; 00:00:00 follows the last, 99:59:74.
     // Ruled out: one that goes from 00:02:74 to 00:02:75, and one that stays at the last.
+    #[tactic(auto, unfolding(crate::specs::Address::next))]
     pub fn next(self) -> Address
         ensures { result ≡ next self }
     {
         if self.frame < 74 {
-            return Address {
-                minute: self.minute,
-                second: self.second,
+            Address {
                 frame: self.frame + 1,
-            };
-        }
-        if self.second < 59 {
-            return Address {
-                minute: self.minute,
+                ..self
+            }
+        } else if self.second < 59 {
+            Address {
                 second: self.second + 1,
                 frame: 0,
-            };
-        }
-        if self.minute < 99 {
-            return Address {
+                ..self
+            }
+        } else if self.minute < 99 {
+            Address {
                 minute: self.minute + 1,
                 second: 0,
                 frame: 0,
-            };
+            }
+        } else {
+            Address::default()
         }
-        Address {
-            minute: 0,
-            second: 0,
-            frame: 0,
-        }
+    }
+
+    // Bytes 12 to 14 of a sector.
+    pub(crate) fn bytes(self) -> [u8; 3]
+        requires { valid self ≡ true }
+        ensures { result ≡ address_bytes self }
+    {
+        [to_bcd(self.minute), to_bcd(self.second), to_bcd(self.frame)]
     }
 }
 
@@ -58,30 +55,16 @@ fn to_bcd(n: u16) -> u8
     requires { n < 100 }
     ensures { result ≡ bcd n }
 {
-    ((n / 10) * 16 + n % 10) as u8
+    (n / 10 * 16 + n % 10) as u8
 }
 
 // Whether a byte is a number's two digits, without a division: the digits are put together, and not the number taken apart. A digit above 9 is none, so that
 // 1Ah is no 20.
 // Ruled out: one that takes 1Ah for 20, and one that compares the byte with the number itself.
-pub fn is_bcd_of(byte: u8, n: u16) -> bool
+pub(crate) fn is_bcd_of(byte: u8, n: u16) -> bool
     ensures { result ≡ eqb byte (bcd n) }
 {
-    let tens = byte >> 4;
-    let ones = byte - 16 * tens;
-    if 9 < ones {
-        return false;
-    }
-    10 * (tens as u32) + (ones as u32) == n as u32
-}
-
-// Bytes 12 to 14 of a sector.
-pub fn bytes_of(address: Address) -> [u8; 3]
-    requires { valid address ≡ true }
-    ensures { result ≡ address_bytes address }
-{
-    let m = to_bcd(address.minute);
-    let s = to_bcd(address.second);
-    let f = to_bcd(address.frame);
-    [m, s, f]
+    let tens = u32::from(byte >> 4);
+    let ones = u32::from(byte & 15);
+    ones <= 9 && 10 * tens + ones == u32::from(n)
 }

@@ -1,12 +1,13 @@
 // Sectors of mode 1 and mode 2 (ECMA-130, clause 14; paper 01, "Sectors"; paper 02, ask 4): sealing user data at an address, opening a sector, judging an opened one and
-// checking its parity, and receiving one from the disc. All but the last are total: each answers every input with a reply number, and a refusal
+// checking its parity, and receiving one from the disc. All but the last are total: each answers every input with its result or a refusal, and a refusal
 // changes no byte.
 #![tactic(auto)]
 
-ghost use Rattle.std.specs.Prelude.{◌≡◌, true, length};
-ghost use Rattle.sector.specs.Address.{valid};
+ghost use Rattle.std.specs.Prelude.{◌≡◌, true, false, MatchResult};
+ghost use Rattle.reply.specs.Reply.{done_of};
+ghost use Rattle.reply.specs.declared.Refusal.TheVariants.{Unfit};
 ghost use Rattle.sector.specs.Receive.{received};
-ghost use Rattle.sector.specs.Calls.{seal_reply, seal_sector, open_reply, open_sector, refused, judge_answer, words_hold, parity_reply};
+ghost use Rattle.sector.specs.Calls.{whole, seal_reply, seal_sector, open_reply, open_sector, judged_of, judge_answer, parity_of, parity_reply};
 
 mod checks;
 mod facts;
@@ -14,16 +15,16 @@ mod frame;
 mod header;
 mod layout;
 
-use layout::Layout;
+use frame::Frame;
+use layout::Kind;
 pub use layout::agrees;
-use numbers::weight;
-use reply::{Reply, answer, refuse};
+use reply::Refusal;
 
 // The bytes of a sector.
-const LENGTH: usize = 2352;
+pub const LENGTH: usize = 2352;
 
 // A sector's place on the disc.
-#[derive(Clone, Copy)]
+#[derive(Clone, Copy, Debug, Default, PartialEq, Eq)]
 pub struct Address {
     pub minute: u16,
     pub second: u16,
@@ -31,7 +32,7 @@ pub struct Address {
 }
 
 // What stands before the user bytes of mode 2, twice: file and channel number, submode, coding information.
-#[derive(Clone, Copy)]
+#[derive(Clone, Copy, Debug, Default, PartialEq, Eq)]
 pub struct Subheader {
     pub file: u8,
     pub channel: u8,
@@ -39,8 +40,8 @@ pub struct Subheader {
     pub coding: u8,
 }
 
-// What failed of a sector: the sync bytes, the mode, the EDC, the address that was expected.
-#[derive(Clone, Copy)]
+// What failed of a sector: the sync bytes, the mode, the EDC, the address that was expected. The default is that nothing failed, or nothing was judged.
+#[derive(Clone, Copy, Debug, Default, PartialEq, Eq)]
 pub struct Judgement {
     pub sync: bool,
     pub mode: bool,
@@ -48,101 +49,78 @@ pub struct Judgement {
     pub address: bool,
 }
 
-// The answer to a judging: a number as in `Reply`, and the four facts.
-#[derive(Clone, Copy)]
-pub struct Judged {
-    pub number: u8,
-    pub judgement: Judgement,
-}
-
 // Seals a buffer at an address where it lies, as a sector of kind 1, 2 or 3: all that stands around the kind's user bytes is written, in mode 2 with the
 // subheader, then all is scrambled. Of what lay there only the user bytes count.
 // Ruled out: one that writes and then refuses the kind, and one that takes the EDC before the head is written.
-pub fn seal(sector: &mut [u8], address: Address, kind: u16, subheader: Subheader) -> Reply
-    ensures { (result ≡ seal_reply sector.old address kind subheader)
+#[tactic(auto, unfolding(crate::specs::Calls::seal_reply, crate::specs::Calls::seal_sector, crate::specs::Sector::sealed))]
+pub fn seal(
+    sector: &mut [u8],
+    address: Address,
+    kind: u16,
+    subheader: Subheader,
+) -> Result<(), Refusal>
+    ensures { (done_of result ≡ seal_reply sector.old address kind subheader)
         × (sector.new ≡ seal_sector sector.old address kind subheader) }
 {
-    if sector.len() != LENGTH {
-        return refuse(1);
-    }
-    if !address.valid() {
-        return refuse(3);
-    }
-    if !layout::agrees(kind, subheader) {
-        return refuse(3);
-    }
-    frame::put(sector, layout::layout_of(kind), address, subheader);
+    let Some(sector) = sector.as_mut_array::<LENGTH>() else {
+        return Err(Refusal::Unfit);
+    };
+    let frame = Frame::new(address, kind, subheader)?;
+    frame.put(sector);
     scramble::scramble(sector);
-    answer(0)
+    Ok(())
 }
 
 // Descrambles a sector where it lies.
 // Ruled out: one that takes a shorter sector, and one that descrambles the sync bytes too.
-pub fn open(sector: &mut [u8]) -> Reply
-    ensures { (result ≡ open_reply sector.old) × (sector.new ≡ open_sector sector.old) }
+#[tactic(auto, unfolding(crate::specs::Calls::open_reply, crate::specs::Calls::open_sector))]
+pub fn open(sector: &mut [u8]) -> Result<(), Refusal>
+    ensures { (done_of result ≡ open_reply sector.old) × (sector.new ≡ open_sector sector.old) }
 {
-    if sector.len() != LENGTH {
-        return refuse(1);
-    }
+    let Some(sector) = sector.as_mut_array::<LENGTH>() else {
+        return Err(Refusal::Unfit);
+    };
     scramble::scramble(sector);
-    answer(0)
+    Ok(())
 }
 
-// A judging that is refused sets no fact.
-fn refused(number: u8) -> Judged
-    ensures { result ≡ refused number }
+// A buffer of a sector's length, as a sector.
+fn whole(sector: &[u8]) -> Result<&[u8; LENGTH], Refusal>
+    ensures { MatchResult result
+        (λ s. (whole sector.now ≡ true) × (s.now ≡ sector.now))
+        (λ e. (whole sector.now ≡ false) × (e ≡ Unfit)) }
 {
-    let judgement = Judgement::none();
-    Judged { number, judgement }
+    sector.try_into().map_err(|_| Refusal::Unfit)
 }
 
 // Judges an opened sector against the address that is expected of it.
 // Ruled out: one that leaves the EDC untested where sync failed, and one that sets the address for a wrong mode.
-pub fn judge(sector: &[u8], address: Address) -> Judged
-    ensures { result ≡ judge_answer sector.now address }
+#[tactic(auto, unfolding(crate::specs::Calls::judge_answer))]
+pub fn judge(sector: &[u8], address: Address) -> Result<Judgement, Refusal>
+    ensures { judged_of result ≡ judge_answer sector.now address }
 {
-    if sector.len() != LENGTH {
-        return refused(1);
-    }
+    let sector = whole(sector)?;
     if !address.valid() {
-        return refused(3);
+        return Err(Refusal::OutOfRange);
     }
-    let judgement = checks::judgement_of(sector, address);
-    Judged {
-        number: 0,
-        judgement,
-    }
+    Ok(checks::judgement_of(sector, address))
 }
 
-// Whether the parity holds that a layout has.
-fn words_hold(sector: &[u8], layout: Layout) -> bool
-    requires { length sector.now ≡ 2352 }
-    ensures { result ≡ words_hold layout sector.now }
+// Checks the parity of an opened sector by the kind that is read from it: whether every word holds, or there is none.
+// Ruled out: one that says yes where a word does not hold, and one that takes mode 1's header as zeros.
+#[tactic(auto, unfolding(crate::specs::Calls::parity_reply, crate::specs::Calls::words_hold))]
+pub fn check_parity(sector: &[u8]) -> Result<bool, Refusal>
+    ensures { parity_of result ≡ parity_reply sector.now }
 {
-    if !layout.parity {
-        return true;
-    }
-    parity::check(sector, layout.masked)
-}
-
-// Checks the parity of an opened sector by the kind that is read from it: 1 if every word holds, or there is none.
-// Ruled out: one that answers 1 for yes as its number, and one that takes mode 1's header as zeros.
-pub fn check_parity(sector: &[u8]) -> Reply
-    ensures { result ≡ parity_reply sector.now }
-{
-    if sector.len() != LENGTH {
-        return refuse(1);
-    }
-    let holds = words_hold(sector, layout::layout_of(layout::kind_read(sector)));
-    answer(weight(holds, 1))
+    let sector = whole(sector)?;
+    let layout = Kind::read(sector).layout();
+    Ok(!layout.parity || parity::check(sector, layout.masked))
 }
 
 // Receives a sector from the disc: it is descrambled into the block, and judged there. The sector is only read, and no copy is made.
 // Ruled out: one that judges the sector before it is descrambled, and one that leaves a bad sector's block as it was.
-pub fn receive(block: &mut [u8], sector: &[u8], expected: Address) -> Judgement
-    requires block_len { length block.old ≡ 2352 }
-    requires sector_len { length sector.now ≡ 2352 }
-    requires expected_value { valid expected ≡ true }
+#[tactic(auto, unfolding(crate::specs::Receive::received))]
+pub fn receive(block: &mut [u8; LENGTH], sector: &[u8; LENGTH], expected: Address) -> Judgement
     ensures { record { bytes = block.new; judgement = result } ≡ received expected sector.now }
 {
     scramble::scramble_into(block, sector);

@@ -7,20 +7,18 @@ fn digit(n: u64) -> u8
     requires { n < 10 }
     ensures { result ≡ 48 + n }
 {
-    48 + n as u8
+    b'0' + n as u8
 }
 
-// Writes bytes as they are.
+// Writes bytes as they are, one by one: of a copy of a length that is not known the compiler would make a call of `memcpy`.
 pub(crate) fn text(out: &mut [u8], at: usize, bytes: &[u8]) -> usize
     requires { at + length bytes.now ≤ length out.old }
     ensures { Written out.old at bytes.now out.new result }
 {
-    let mut i = 0;
-    while i < bytes.len() {
-        out[at + i] = bytes[i];
-        i += 1;
+    for (i, byte) in bytes.iter().enumerate() {
+        out[at + i] = *byte;
     }
-    at + i
+    at + bytes.len()
 }
 
 // Writes a number in decimal.

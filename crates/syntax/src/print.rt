@@ -9,7 +9,7 @@ pub const ROOM: usize = 160;
 
 // What the line shows: how many lines were read, the reply's number and result, TCC, BUFC, what failed of the last stored sector, and the
 // host interrupt.
-#[derive(Clone, Copy)]
+#[derive(Clone, Copy, Debug, PartialEq, Eq)]
 pub struct Shown {
     pub lines: u64,
     pub number: u8,
@@ -24,7 +24,7 @@ pub struct Shown {
 fn flag(b: bool) -> u64
     ensures { result ≡ flag b }
 {
-    if b { 1 } else { 0 }
+    u64::from(b)
 }
 
 // The line's first three rows, at the front of a buffer.

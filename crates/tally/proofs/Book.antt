@@ -12,10 +12,10 @@ use Rattle.laws.proofs.Tests.{clash, if_not}
 use Rattle.laws.proofs.Lengths.{length_parts, length_some}
 use Rattle.calls.specs.declared.Call.TheVariants.{Write, Read, SetBlock, SetWindow, SetExpected, PacketByte, Reset, Command, PacketWord, Status, Srst}
 use Rattle.sector.specs.Receive.{received}
+use Rattle.controller.specs.Step.{Step}
 use Rattle.controller.specs.Calls.{stepped}
 use Rattle.controller.specs.Write.{write_skipc, write}
 use Rattle.controller.specs.declared.state.Controller.{Controller}
-use Rattle.controller.specs.declared.step.Step.{Step}
 use Rattle.outcomes.specs.Book.{Book, takes, fed_write, fed, feed, first_book}
 use Rattle.outcomes.specs.Machine.{Call, plain, sector, look, word, Answer, replied, handed, refused, seen, number, Machine, after}
 use Rattle.outcomes.specs.Row.{Row, Valid, shown, row_answer, row_step, the_row}

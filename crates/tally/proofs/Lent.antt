@@ -22,15 +22,13 @@ use Rattle.ring.specs.Place.{full}
 use Rattle.outcomes.specs.Machine.{Call, plain, sector, look, word, Answer, replied, number}
 use Rattle.outcomes.specs.Row.{Row, shown, row_answer, row_step, the_row}
 use Rattle.outcomes.proofs.Rows.{kept}
-use Rattle.chip.specs.Chip.{opened, refused, ring_fits, finished}
+use Rattle.chip.specs.Chip.{opened, ring_fits, finished}
+use Rattle.chip.specs.Told.{refused, Told, Handed, Refused, WordTold}
 use Rattle.chip.specs.Calls as calls
 use Rattle.chip.specs.Calls.{called, received_by, sector_told, next_word, word_by, word_told}
 use Rattle.chip.specs.Machine.{over, of_told, of_word, chip_answer, chip_step}
 use Rattle.chip.specs.Sound.{sound}
 use Rattle.chip.specs.declared.Chip.{Chip}
-use Rattle.chip.specs.declared.Told.{Told}
-use Rattle.chip.specs.declared.Word.TheVariants.{Handed, Refused}
-use Rattle.chip.specs.declared.WordTold.{WordTold}
 use Rattle.claims.specs.Demand3.{masked}
 use Rattle.claims.specs.Refinement.{Refines}
 use Rattle.claims.specs.Shown.{result, holding, held_after}

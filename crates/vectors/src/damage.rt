@@ -1,73 +1,59 @@
 // Copies of a plain sector with one byte changed, at the first and the last place of each of its parts, or with its EDC taken away.
-use super::calls;
 use super::kinds::Kind;
+use super::record::Record;
 use super::tally::Tally;
-use sector::Address;
 
 // The copy changed at `place` is judged so.
-fn changed(plain: &[u8], place: usize, address: Address, why: u16) -> bool {
-    let mut space = [0u8; 2352];
-    let buffer: &mut [u8] = &mut space;
-    calls::put(buffer, 0, plain);
-    if place >= buffer.len() {
+fn changed(record: &Record, place: usize, why: u16) -> bool {
+    let mut sector = record.plain;
+    let Some(byte) = sector.get_mut(place) else {
         return false;
-    }
-    buffer[place] = buffer[place] ^ 0x10;
-    calls::judges(buffer, address, why)
+    };
+    *byte ^= 0x10;
+    record.with_plain(sector).is_judged(record.address, why)
 }
 
-// At both ends of a part.
-fn ends(plain: &[u8], first: usize, last: usize, address: Address, why: u16) -> bool {
-    changed(plain, first, address, why) && changed(plain, last, address, why)
-}
-
-// Each of the three bytes.
-fn address_bytes(plain: &[u8], address: Address, why: u16) -> bool {
-    ends(plain, 12, 14, address, why) && changed(plain, 13, address, why)
+// Each of the copies that are changed at one of these places is judged so.
+fn each(record: &Record, places: &[usize], why: u16) -> bool {
+    places.iter().all(|place| changed(record, *place, why))
 }
 
 // The four bytes of the EDC are zero: in form 2 there is none, and nothing fails; in any other kind it is wrong.
-fn no_edc(plain: &[u8], kind: Kind, address: Address) -> bool {
-    let zeros = [0u8; 4];
-    let mut space = [0u8; 2352];
-    let buffer: &mut [u8] = &mut space;
-    calls::put(buffer, 0, plain);
-    calls::put(buffer, kind.code, &zeros);
-    if kind.number == 3 {
-        return calls::judges(buffer, address, 0) && changed(buffer, 24, address, 0);
+fn no_edc(record: &Record) -> bool {
+    let code = record.kind.layout().code;
+    let mut sector = record.plain;
+    sector[code..code + 4].fill(0);
+    let without = record.with_plain(sector);
+    if record.kind == Kind::Form2 {
+        return without.is_judged(record.address, 0) && changed(&without, 24, 0);
     }
-    calls::judges(buffer, address, 2)
+    without.is_judged(record.address, 2)
 }
 
 // What stands behind the EDC is not judged: zeros and parity in mode 1, parity in form 1.
-fn behind(plain: &[u8], kind: Kind, address: Address, t: Tally) -> Tally {
-    if kind.number == 3 {
-        return t;
+fn behind(record: &Record, t: &mut Tally) {
+    if record.kind != Kind::Form2 {
+        t.check(" parity", each(record, &[2076, 2351], 0));
     }
-    let u = t.check(" parity", ends(plain, 2076, 2351, address, 0));
-    if kind.number == 2 {
-        return u;
+    if record.kind == Kind::Mode1 {
+        t.check(" zeros", each(record, &[2068, 2075], 0));
     }
-    u.check(" zeros", ends(plain, 2068, 2075, address, 0))
 }
 
-// The copies of the subheader, which no longer are equal (4); the EDC covers them.
-fn copies(plain: &[u8], kind: Kind, address: Address, t: Tally) -> Tally {
-    if kind.number == 1 {
-        return t;
+// The EDC (2) covers sync (8) and address (1) in mode 1 alone. With the mode byte changed (4) the rule is that of mode 1, whose EDC is wrong too; so it is
+// where the copies of the subheader no longer are equal (4), and the EDC covers them.
+pub(crate) fn checks(record: &Record, t: &mut Tally) {
+    let layout = record.kind.layout();
+    let user = [layout.user, layout.user + layout.size - 1];
+    let code = [layout.code, layout.code + 3];
+    t.check(" sync", each(record, &[0, 11], layout.sync));
+    t.check(" address", each(record, &[12, 13, 14], layout.address));
+    t.check(" mode", changed(record, 15, 4 + 2));
+    if record.kind != Kind::Mode1 {
+        t.check(" copies", each(record, &[16, 19, 20, 23], 4 + 2));
     }
-    let first = ends(plain, 16, 19, address, 4 + 2);
-    t.check(" copies", first && ends(plain, 20, 23, address, 4 + 2))
-}
-
-// The EDC (2) covers sync (8) and address (1) in mode 1 alone. With the mode byte changed (4) the rule is that of mode 1, whose EDC is wrong too.
-pub(crate) fn checks(plain: &[u8], kind: Kind, address: Address, t: Tally) -> Tally {
-    let a = t.check(" sync", ends(plain, 0, 11, address, kind.sync));
-    let b = a.check(" address", address_bytes(plain, address, kind.address));
-    let c = b.check(" mode", changed(plain, 15, address, 4 + 2));
-    let d = copies(plain, kind, address, c);
-    let e = d.check(" user", ends(plain, kind.user, kind.last, address, 2));
-    let f = e.check(" edc", ends(plain, kind.code, kind.code_last, address, 2));
-    let g = f.check(" no edc", no_edc(plain, kind, address));
-    behind(plain, kind, address, g)
+    t.check(" user", each(record, &user, 2));
+    t.check(" edc", each(record, &code, 2));
+    t.check(" no edc", no_edc(record));
+    behind(record, t);
 }

@@ -1,182 +1,139 @@
 // The file of vectors: a header of 32 bytes, then records of 7,052 bytes, read one at a time. Whatever is wrong with it is a check
 // that failed, and ends the reading.
-ghost use Rattle.std.specs.Prelude.{◌≤◌, length};
-
+use super::kinds::Kind;
+use super::record::{Record, SIZE, word};
 use super::tally::Tally;
-use super::{fields, record};
-use slices::equal;
-use std::fs;
 use std::io::Read;
 use std::rt::Files;
+use std::{fmt, fs};
 
-// How many records a header announces, or what is wrong with it.
-#[derive(Drop)]
-enum Header {
-    Records(u32),
+// What is wrong with the file.
+#[derive(Clone, Copy, Debug, PartialEq, Eq)]
+pub(crate) enum Fault {
+    Unopened,
     Short,
     Magic,
     Version,
     RecordSize,
     FirstRecord,
+    Part,
+    Kind,
 }
 
-// What has been read.
-#[derive(Drop)]
-struct Reading {
-    tally: Tally,
+// What the check was that failed.
+impl fmt::Display for Fault {
+    fn fmt<W: fmt::Write>(&self, f: &mut fmt::Formatter<W>) -> fmt::Result {
+        f.write_str(match self {
+            Fault::Unopened => "opened",
+            Fault::Short => "header of 32 bytes",
+            Fault::Magic => "magic ECMA130V",
+            Fault::Version => "version 1",
+            Fault::RecordSize => "record size 7052",
+            Fault::FirstRecord => "first record at 32",
+            Fault::Part => "whole records",
+            Fault::Kind => "kinds 1 to 3",
+        })
+    }
+}
+
+// How many records were run, and of each kind.
+#[derive(Clone, Copy, Default)]
+struct Counts {
     records: u32,
     mode1: u32,
     form1: u32,
     form2: u32,
-    goes_on: bool,
 }
 
-fn parse(h: &[u8]) -> Header {
-    if h.len() != 32 {
-        return Header::Short;
+impl Counts {
+    fn add(&mut self, kind: Kind) {
+        let count = match kind {
+            Kind::Mode1 => &mut self.mode1,
+            Kind::Form1 => &mut self.form1,
+            Kind::Form2 => &mut self.form2,
+        };
+        *count = count.wrapping_add(1);
+        self.records = self.records.wrapping_add(1);
     }
-    if !equal(&h[0..8], b"ECMA130V") {
-        return Header::Magic;
+
+    fn print(&self, t: &mut Tally) {
+        let Counts {
+            records,
+            mode1,
+            form1,
+            form2,
+        } = *self;
+        t.text(format_args!("sectors.bin {records} records, {mode1}"));
+        t.check(" of mode 1", mode1 > 0);
+        t.text(format_args!(", {form1}"));
+        t.check(" of form 1", form1 > 0);
+        t.text(format_args!(", {form2}"));
+        t.check(" of form 2", form2 > 0);
+        t.text("\n");
     }
-    if fields::word(&h[8..12]) != 1 {
-        return Header::Version;
-    }
-    if fields::word(&h[16..20]) != 7052 {
-        return Header::RecordSize;
-    }
-    if fields::word(&h[20..24]) != 32 {
-        return Header::FirstRecord;
-    }
-    Header::Records(fields::word(&h[12..16]))
 }
 
-// Reads until the buffer is full, the input ends or a read fails, and gives how many bytes came.
-fn read_full<I: Read>(from: &mut I, buffer: &mut [u8]) -> usize
-    ensures { result ≤ length buffer.new }
-{
-    let mut done = 0;
-    while done < buffer.len() {
-        match from.read(&mut buffer[done..]) {
-            Ok(0) | Err(_) => break,
-            Ok(got) => done += got,
-        }
+// How many records a header announces.
+fn announced(header: &[u8; 32]) -> Result<u32, Fault> {
+    if !header.starts_with(b"ECMA130V") {
+        return Err(Fault::Magic);
     }
-    done
+    if word(header, 8) != 1 {
+        return Err(Fault::Version);
+    }
+    if word(header, 16) != SIZE as u32 {
+        return Err(Fault::RecordSize);
+    }
+    if word(header, 20) != 32 {
+        return Err(Fault::FirstRecord);
+    }
+    Ok(word(header, 12))
 }
 
-fn read_header<I: Read>(from: &mut I) -> Header {
-    let mut buffer = [0u8; 32];
-    let n = read_full(from, &mut buffer);
-    parse(&buffer[..n])
+// So many bytes, or what is wrong where they do not come.
+fn read<const N: usize>(from: &mut impl Read, fault: Fault) -> Result<[u8; N], Fault> {
+    let mut bytes = [0; N];
+    from.read_exact(&mut bytes).map_err(|_| fault)?;
+    Ok(bytes)
+}
+
+// Runs so many records, each as it is read.
+fn run_records(
+    from: &mut impl Read,
+    count: u32,
+    counts: &mut Counts,
+    t: &mut Tally,
+) -> Result<(), Fault> {
+    for number in 0..count {
+        let bytes = read::<SIZE>(from, Fault::Part)?;
+        let record = Record::try_from(&bytes)?;
+        record.checks(number, t);
+        counts.add(record.kind);
+    }
+    Ok(())
 }
 
 // A line of one check, which failed.
-fn failure(words: &str, t: Tally) -> Tally {
-    t.text("sectors.bin");
-    let u = t.check(words, false);
-    u.text("\n");
-    u
+fn tell(fault: Fault, t: &mut Tally) {
+    t.check(format_args!("sectors.bin {fault}"), false);
+    t.text("\n");
 }
 
-// Tells what is wrong; nothing more is read.
-fn ended(words: &str, r: Reading) -> Reading {
-    Reading {
-        tally: failure(words, r.tally),
-        records: r.records,
-        mode1: r.mode1,
-        form1: r.form1,
-        form2: r.form2,
-        goes_on: false,
+// The records that came before a fault are counted.
+fn run<R: Files>(rt: &R, t: &mut Tally) -> Result<(), Fault> {
+    let mut file = fs::open(rt, "sectors.bin").map_err(|_| Fault::Unopened)?;
+    let header = read(&mut file, Fault::Short)?;
+    let count = announced(&header)?;
+    let mut counts = Counts::default();
+    if let Err(fault) = run_records(&mut file, count, &mut counts, t) {
+        tell(fault, t);
     }
+    counts.print(t);
+    Ok(())
 }
 
-// One more of a kind.
-fn counted(count: u32, kind: u8, of: u8) -> u32 {
-    if kind != of {
-        return count;
-    }
-    count.wrapping_add(1)
-}
-
-// One record more, run by its kind: 1 is mode 1, 2 is mode 2 form 1, and 3 is mode 2 form 2.
-fn take(bytes: &[u8], r: Reading) -> Reading {
-    if bytes.len() != 7052 {
-        return ended(" whole records", r);
-    }
-    let kind = bytes[0];
-    if (kind < 1) | (3 < kind) {
-        return ended(" kinds 1 to 3", r);
-    }
-    Reading {
-        tally: record::checks(r.records, bytes, r.tally),
-        records: r.records.wrapping_add(1),
-        mode1: counted(r.mode1, kind, 1),
-        form1: counted(r.form1, kind, 2),
-        form2: counted(r.form2, kind, 3),
-        goes_on: true,
-    }
-}
-
-fn read_one<I: Read>(from: &mut I, r: Reading) -> Reading {
-    let mut buffer = [0u8; 7052];
-    let n = read_full(from, &mut buffer);
-    take(&buffer[..n], r)
-}
-
-// At most `count` records.
-fn read_all<I: Read>(from: &mut I, count: u32, t: Tally) -> Reading {
-    let mut r = Reading {
-        tally: t,
-        records: 0,
-        mode1: 0,
-        form1: 0,
-        form2: 0,
-        goes_on: true,
-    };
-    for _ in 0..count {
-        if !r.goes_on {
-            break;
-        }
-        r = read_one(from, r);
-    }
-    r
-}
-
-fn records<I: Read>(from: &mut I, count: u32, t: Tally) -> Tally {
-    let r = read_all(from, count, t);
-    let s = r.tally;
-    s.text("sectors.bin ");
-    s.number(r.records);
-    s.text(" records, ");
-    s.number(r.mode1);
-    let u = s.check(" of mode 1", r.mode1 > 0);
-    u.text(", ");
-    u.number(r.form1);
-    let v = u.check(" of form 1", r.form1 > 0);
-    v.text(", ");
-    v.number(r.form2);
-    let w = v.check(" of form 2", r.form2 > 0);
-    w.text("\n");
-    w
-}
-
-fn run<I: Read>(from: &mut I, header: Header, t: Tally) -> Tally {
-    match header {
-        Header::Records(count) => records(from, count, t),
-        Header::Short => failure(" header of 32 bytes", t),
-        Header::Magic => failure(" magic ECMA130V", t),
-        Header::Version => failure(" version 1", t),
-        Header::RecordSize => failure(" record size 7052", t),
-        Header::FirstRecord => failure(" first record at 32", t),
-    }
-}
-
-pub(crate) fn checks<R: Files>(rt: &R, t: Tally) -> Tally {
-    match fs::open(rt, "sectors.bin") {
-        Ok(mut file) => {
-            let header = read_header(&mut file);
-            run(&mut file, header, t)
-        }
-        Err(_) => failure(" opened", t),
+pub(crate) fn checks<R: Files>(rt: &R, t: &mut Tally) {
+    if let Err(fault) = run(rt, t) {
+        tell(fault, t);
     }
 }

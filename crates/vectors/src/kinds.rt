@@ -1,73 +1,75 @@
 // Where everything stands in a sector of each kind, by ECMA-130 and CD-ROM XA; nothing of it is taken from the library.
+ghost use Rattle.std.specs.Prelude.{◌+◌, ◌<◌, ◌≤◌};
 
-// The kind's number; where its user bytes begin, the last of them, and how many there are; where the EDC's first and last byte stand, from where on it
-// covers the bytes before it, and how many; and why of a damaged sync byte and of a damaged address, which in mode 1 it covers too.
+use super::file::Fault;
+
+// Mode 1, and the two forms of mode 2, by their numbers.
+#[derive(Clone, Copy, Debug, PartialEq, Eq)]
+pub(crate) enum Kind {
+    Mode1 = 1,
+    Form1 = 2,
+    Form2 = 3,
+}
+
+// Where its parts stand, and what is told of a damaged one.
 #[derive(Clone, Copy)]
-pub(crate) struct Kind {
-    pub number: u16,
+pub(crate) struct Layout {
+    // The user bytes, and how many there are.
     pub user: usize,
-    pub last: usize,
     pub size: usize,
+    // From where on the EDC covers the bytes before it, and its own four bytes.
+    pub covered: usize,
     pub code: usize,
-    pub code_last: usize,
-    pub from: usize,
-    pub covers: usize,
+    // Why of a damaged sync byte, and of a damaged address: in mode 1 the EDC covers both.
     pub sync: u16,
     pub address: u16,
+    ghost not_empty: { 0 < size },
+    ghost most: { size ≤ 2324 },
+    ghost user_fits: { user + size ≤ 2352 },
+    ghost covers: { covered ≤ code },
+    ghost code_fits: { code + 4 ≤ 2352 },
 }
 
-fn mode1() -> Kind {
-    Kind {
-        number: 1,
-        user: 16,
-        last: 2063,
-        size: 2048,
-        code: 2064,
-        code_last: 2067,
-        from: 0,
-        covers: 2064,
-        sync: 8 + 2,
-        address: 1 + 2,
-    }
-}
+impl TryFrom<u8> for Kind {
+    type Error = Fault;
 
-fn form1() -> Kind {
-    Kind {
-        number: 2,
-        user: 24,
-        last: 2071,
-        size: 2048,
-        code: 2072,
-        code_last: 2075,
-        from: 16,
-        covers: 2056,
-        sync: 8,
-        address: 1,
+    fn try_from(number: u8) -> Result<Kind, Fault> {
+        match number {
+            1 => Ok(Kind::Mode1),
+            2 => Ok(Kind::Form1),
+            3 => Ok(Kind::Form2),
+            _ => Err(Fault::Kind),
+        }
     }
 }
 
-fn form2() -> Kind {
-    Kind {
-        number: 3,
-        user: 24,
-        last: 2347,
-        size: 2324,
-        code: 2348,
-        code_last: 2351,
-        from: 16,
-        covers: 2332,
-        sync: 8,
-        address: 1,
+impl Kind {
+    pub(crate) fn layout(self) -> Layout {
+        match self {
+            Kind::Mode1 => Layout {
+                user: 16,
+                size: 2048,
+                covered: 0,
+                code: 2064,
+                sync: 8 + 2,
+                address: 1 + 2,
+            },
+            Kind::Form1 => Layout {
+                user: 24,
+                size: 2048,
+                covered: 16,
+                code: 2072,
+                sync: 8,
+                address: 1,
+            },
+            Kind::Form2 => Layout {
+                user: 24,
+                size: 2324,
+                covered: 16,
+                code: 2348,
+                sync: 8,
+                address: 1,
+            },
+        }
     }
-}
-
-// The kind of a record by its first byte.
-pub(crate) fn of(number: u8) -> Kind {
-    if number == 2 {
-        return form1();
-    }
-    if number == 3 {
-        return form2();
-    }
-    mode1()
 }

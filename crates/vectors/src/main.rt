@@ -2,9 +2,7 @@
 // and the records of the file sectors.bin, of mode 1 and of both forms of mode 2. Behind each check stands `ok` or `FAILED`, and the last line counts them.
 #![tactic(auto)]
 
-mod calls;
 mod damage;
-mod fields;
 mod file;
 mod kinds;
 mod published;
@@ -13,10 +11,12 @@ mod refusals;
 mod tally;
 mod words;
 
+use tally::Tally;
+
 fn main(rt: HostRuntime) {
-    let none = tally::Tally::new(rt.stdout());
-    let values = published::checks(none);
-    let refused = refusals::checks(values);
-    let all = file::checks(&rt, refused);
-    all.print();
+    let mut t = Tally::new(rt.stdout());
+    published::checks(&mut t);
+    refusals::checks(&mut t);
+    file::checks(&rt, &mut t);
+    t.print();
 }

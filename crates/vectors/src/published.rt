@@ -1,35 +1,32 @@
 // The published values: the check value of the EDC, and the beginning of the sequence that a sector is scrambled with.
 use super::tally::Tally;
-use slices::equal;
+use sector::LENGTH;
+
+// The sequence's first 16 bytes.
+const FIRST: [u8; 16] = *b"\x01\x80\x00\x60\x00\x28\x00\x1e\x80\x08\x60\x06\xa8\x02\xfe\x81";
 
 // CRC-32/CD-ROM-EDC of the nine bytes that check values are given for.
-fn edc_value(t: Tally) -> Tally {
+fn edc_value(t: &mut Tally) {
     let code = edc::edc(b"123456789");
-    t.text("edc 123456789 ");
-    t.word(code);
-    let u = t.check("", code == 0x6ec2edc4);
-    u.text("\n");
-    u
+    t.text(format_args!("edc 123456789 {code:08x}"));
+    t.check("", code == 0x6ec2edc4);
+    t.text("\n");
 }
 
 // Of a scrambled sector of zeros, bytes 12 to 27 are the sequence's first; the sync bytes before them stay.
-fn sequence(sector: &[u8], t: Tally) -> Tally {
+fn sequence(t: &mut Tally) {
+    let mut sector = [0; LENGTH];
+    scramble::scramble(&mut sector);
     t.text("scramble");
-    if sector.len() != 2352 {
-        return t.check(" length", false);
+    for byte in &sector[12..28] {
+        t.text(format_args!(" {byte:02x}"));
     }
-    let first = b"\x01\x80\x00\x60\x00\x28\x00\x1e\x80\x08\x60\x06\xa8\x02\xfe\x81";
-    let zeros = [0u8; 12];
-    t.bytes(&sector[12..28]);
-    let u = t.check("", equal(&sector[12..28], first));
-    let v = u.check(" sync", equal(&sector[0..12], &zeros));
-    v.text("\n");
-    v
+    t.check("", sector[12..].starts_with(&FIRST));
+    t.check(" sync", sector.starts_with(&[0; 12]));
+    t.text("\n");
 }
 
-pub(crate) fn checks(t: Tally) -> Tally {
-    let mut zeros = [0u8; 2352];
-    let sector: &mut [u8] = &mut zeros;
-    scramble::scramble(sector);
-    sequence(sector, edc_value(t))
+pub(crate) fn checks(t: &mut Tally) {
+    edc_value(t);
+    sequence(t);
 }

@@ -1,13 +1,37 @@
 // One record. Its parts: the kind in byte 0, the absolute frame from byte 8, the subheader from 12, the EDC from 20, the user bytes from 24, the plain
 // sector from 2,348, and the scrambled sector from 4,700 to its end, 7,052.
-ghost use Rattle.std.specs.Prelude.{◌≡◌, length};
+ghost use Rattle.std.specs.Prelude.{◌+◌, ◌≤◌, length};
 
-use super::kinds::Kind;
+use super::file::Fault;
+use super::kinds::{Kind, Layout};
 use super::tally::Tally;
-use super::{calls, damage, fields, kinds, words};
-use sector::Address;
+use super::{damage, words};
+use sector::{Address, Judgement, LENGTH, Subheader};
 
-// 75 frames are a second. The file gives the address in BCD too, which sealing has to find by itself.
+pub(crate) const SIZE: usize = 7052;
+
+#[derive(Clone, Copy)]
+pub(crate) struct Record {
+    pub kind: Kind,
+    pub address: Address,
+    // The address that follows.
+    next: Address,
+    subheader: Subheader,
+    code: u32,
+    // The user bytes of its kind, and zeros up to the most that a kind has.
+    user: [u8; 2324],
+    pub plain: [u8; LENGTH],
+    scrambled: [u8; LENGTH],
+}
+
+// A number in the file: four bytes, the lowest first.
+pub(crate) fn word(bytes: &[u8], at: usize) -> u32
+    requires { at + 4 ≤ length bytes.now }
+{
+    u32::from_le_bytes(*bytes[at..at + 4].as_array().unwrap())
+}
+
+// 75 frames are a second, and there are 450,000 addresses. The file gives the address in BCD too, which sealing has to find by itself.
 fn address_of(frames: u32) -> Address {
     Address {
         minute: (frames / 4500 % 100) as u16,
@@ -16,64 +40,97 @@ fn address_of(frames: u32) -> Address {
     }
 }
 
-// The beginning of a line.
-fn heading(number: u32, kind: Kind, address: Address, t: &Tally) {
-    t.text("record ");
-    t.number(number);
-    t.text(" kind ");
-    t.number(kind.number as u32);
-    t.text(" ");
-    t.two(address.minute);
-    t.text(":");
-    t.two(address.second);
-    t.text(":");
-    t.two(address.frame);
-}
+impl TryFrom<&[u8; SIZE]> for Record {
+    type Error = Fault;
 
-// What the record holds, against the calls. 99:59:74 is the last of 450,000 addresses, and the first follows it.
-fn compare(bytes: &[u8], kind: Kind, frames: u32, t: Tally) -> Tally
-    requires { length bytes.now ≡ 7052 }
-{
-    let address = address_of(frames);
-    let next = address_of(frames % 450000 + 1);
-    let plain = &bytes[2348..4700];
-    let scrambled = &bytes[4700..];
-    let header = calls::subheader(&bytes[12..16]);
-    let user = calls::part(bytes, 24, kind.size);
-    let code = edc::edc(calls::part(plain, kind.from, kind.covers));
-    let sealed = calls::seals(user, kind, header, address, scrambled);
-    let a = t.check(" edc", code == fields::word(&bytes[20..24]));
-    let b = a.check(" sealed", sealed);
-    let c = b.check(" opened", calls::opens(scrambled, plain));
-    let d = c.check(" judged", calls::judges(plain, address, 0));
-    let e = d.check(" next", calls::judges(plain, next, 1));
-    e.check(" parity", calls::says(plain, 1))
-}
-
-// The parity words; form 2 has none, and the check says yes of any bytes.
-fn parity_words(plain: &[u8], kind: Kind, t: Tally) -> Tally
-    requires { length plain.now ≡ 2352 }
-{
-    if kind.number == 3 {
-        return t.check(" any bytes", words::any_bytes(plain));
+    fn try_from(bytes: &[u8; SIZE]) -> Result<Self, Fault> {
+        let frames = word(bytes, 8);
+        Ok(Record {
+            kind: bytes[0].try_into()?,
+            address: address_of(frames),
+            // 99:59:74 is the last address, and the first follows it.
+            next: address_of(frames % 450000 + 1),
+            subheader: Subheader {
+                file: bytes[12],
+                channel: bytes[13],
+                submode: bytes[14],
+                coding: bytes[15],
+            },
+            code: word(bytes, 20),
+            user: *bytes[24..2348].as_array().unwrap(),
+            plain: *bytes[2348..4700].as_array().unwrap(),
+            scrambled: *bytes[4700..].as_array().unwrap(),
+        })
     }
-    words::checks(plain, kind.number == 2, t)
 }
 
-// The two lines of the record `number` of the file.
-pub(crate) fn checks(number: u32, bytes: &[u8], t: Tally) -> Tally
-    requires { length bytes.now ≡ 7052 }
-{
-    let frames = fields::word(&bytes[8..12]);
-    let address = address_of(frames);
-    let kind = kinds::of(bytes[0]);
-    heading(number, kind, address, &t);
-    let u = compare(bytes, kind, frames, t);
-    u.text("\n");
-    heading(number, kind, address, &u);
-    u.text(" damaged");
-    let v = damage::checks(&bytes[2348..4700], kind, address, u);
-    let w = parity_words(&bytes[2348..4700], kind, v);
-    w.text("\n");
-    w
+// The parity check says yes.
+pub(crate) fn parity_agrees(plain: &[u8; LENGTH]) -> bool {
+    sector::check_parity(plain) == Ok(true)
+}
+
+impl Record {
+    // The same with another plain sector.
+    pub(crate) fn with_plain(&self, plain: [u8; LENGTH]) -> Record {
+        Record { plain, ..*self }
+    }
+
+    // The EDC of the bytes that it covers is the file's.
+    fn has_code(&self) -> bool {
+        let layout = self.kind.layout();
+        edc::edc(&self.plain[layout.covered..layout.code]) == self.code
+    }
+
+    // Sealing gives the scrambled sector, from a buffer that holds its user bytes and nothing else of it.
+    fn is_sealed(&self) -> bool {
+        let Layout { user, size, .. } = self.kind.layout();
+        let mut sector = [0xa5; LENGTH];
+        sector[user..user + size].copy_from_slice(&self.user[..size]);
+        let sealed = sector::seal(&mut sector, self.address, self.kind as u16, self.subheader);
+        sealed == Ok(()) && sector == self.scrambled
+    }
+
+    // Opening the scrambled sector gives the plain one.
+    fn is_opened(&self) -> bool {
+        let mut sector = self.scrambled;
+        sector::open(&mut sector) == Ok(()) && sector == self.plain
+    }
+
+    // Judging the plain sector gives these facts, as the number why.
+    pub(crate) fn is_judged(&self, address: Address, why: u16) -> bool {
+        sector::judge(&self.plain, address).map(Judgement::why) == Ok(why)
+    }
+
+    // The beginning of a line.
+    fn heading(&self, number: u32, t: &Tally) {
+        let kind = self.kind as u16;
+        let Address {
+            minute,
+            second,
+            frame,
+        } = self.address;
+        t.text(format_args!("record {number} kind {kind} {minute:02}:{second:02}:{frame:02}"));
+    }
+
+    // What the record holds, against the calls.
+    fn compare(&self, t: &mut Tally) {
+        t.check(" edc", self.has_code());
+        t.check(" sealed", self.is_sealed());
+        t.check(" opened", self.is_opened());
+        t.check(" judged", self.is_judged(self.address, 0));
+        t.check(" next", self.is_judged(self.next, 1));
+        t.check(" parity", parity_agrees(&self.plain));
+    }
+
+    // The two lines of the record `number` of the file.
+    pub(crate) fn checks(&self, number: u32, t: &mut Tally) {
+        self.heading(number, t);
+        self.compare(t);
+        t.text("\n");
+        self.heading(number, t);
+        t.text(" damaged");
+        damage::checks(self, t);
+        words::checks(self, t);
+        t.text("\n");
+    }
 }

@@ -1,81 +1,52 @@
 // The parity words of a plain sector, with the header as it is or taken as zeros.
-ghost use Rattle.std.specs.Prelude.{◌≡◌, length};
-
-use super::calls;
+use super::kinds::Kind;
+use super::record::{Record, parity_agrees};
 use super::tally::Tally;
-use slices::equal;
+use sector::LENGTH;
 
 // Written over other bytes, the parity is the sector's own.
-fn written(plain: &[u8], masked: bool) -> bool {
-    let other = [0xa5u8; 276];
-    let mut space = [0u8; 2352];
-    let buffer: &mut [u8] = &mut space;
-    calls::put(buffer, 0, plain);
-    calls::put(buffer, 2076, &other);
-    if buffer.len() != 2352 {
-        return false;
-    }
-    parity::write(buffer, masked);
-    equal(buffer, plain)
+fn written(plain: &[u8; LENGTH], masked: bool) -> bool {
+    let mut sector = *plain;
+    sector[2076..].fill(0xa5);
+    parity::write(&mut sector, masked);
+    sector == *plain
 }
 
-fn change(buffer: &mut [u8], place: usize, by: u8) {
-    if place >= buffer.len() {
-        return;
-    }
-    buffer[place] = buffer[place] ^ by;
-}
-
-// A word of the sector does not hold.
-fn fails(buffer: &[u8], masked: bool) -> bool {
-    if buffer.len() != 2352 {
-        return false;
-    }
-    !parity::check(buffer, masked)
-}
-
-// Each of the 276 parity bytes, one at a time.
-fn each_wrong_byte(plain: &[u8], masked: bool) -> bool {
-    let mut space = [0u8; 2352];
-    let buffer: &mut [u8] = &mut space;
-    calls::put(buffer, 0, plain);
-    let mut told = true;
-    let mut place: usize = 2076;
-    while place < 2352 {
-        change(buffer, place, 0x10);
-        told = fails(buffer, masked) && told;
-        change(buffer, place, 0x10);
-        place += 1;
-    }
-    told
+// Each of the 276 parity bytes, one at a time: a word does not hold.
+fn each_wrong_byte(plain: &[u8; LENGTH], masked: bool) -> bool {
+    (2076..LENGTH).all(|place| {
+        let mut sector = *plain;
+        sector[place] ^= 0x10;
+        !parity::check(&sector, masked)
+    })
 }
 
 // Three symbols of the first Q word changed so that both its sums stay: every Q word holds then, and P words fail.
-fn p_alone(plain: &[u8], masked: bool) -> bool {
-    let mut space = [0u8; 2352];
-    let buffer: &mut [u8] = &mut space;
-    calls::put(buffer, 0, plain);
-    change(buffer, 1472, 1);
-    change(buffer, 2248, 3);
-    change(buffer, 2300, 2);
-    fails(buffer, masked)
+fn p_alone(plain: &[u8; LENGTH], masked: bool) -> bool {
+    let mut sector = *plain;
+    sector[1472] ^= 1;
+    sector[2248] ^= 3;
+    sector[2300] ^= 2;
+    !parity::check(&sector, masked)
 }
 
 // With all its user bytes other ones, the check of a form 2 sector says yes.
-pub(crate) fn any_bytes(plain: &[u8]) -> bool {
-    let other = [0xa5u8; 2324];
-    let mut space = [0u8; 2352];
-    let buffer: &mut [u8] = &mut space;
-    calls::put(buffer, 0, plain);
-    calls::put(buffer, 24, &other);
-    calls::says(buffer, 1)
+fn any_bytes(plain: &[u8; LENGTH]) -> bool {
+    let mut sector = *plain;
+    sector[24..2348].fill(0xa5);
+    parity_agrees(&sector)
 }
 
-pub(crate) fn checks(plain: &[u8], masked: bool, t: Tally) -> Tally
-    requires { length plain.now ≡ 2352 }
-{
-    let a = t.check(" words", parity::check(plain, masked));
-    let b = a.check(" written", written(plain, masked));
-    let c = b.check(" each parity byte", each_wrong_byte(plain, masked));
-    c.check(" P alone", p_alone(plain, masked))
+// Form 2 has no parity, and the check says yes of any bytes.
+pub(crate) fn checks(record: &Record, t: &mut Tally) {
+    let plain = &record.plain;
+    if record.kind == Kind::Form2 {
+        t.check(" any bytes", any_bytes(plain));
+        return;
+    }
+    let masked = record.kind == Kind::Form1;
+    t.check(" words", parity::check(plain, masked));
+    t.check(" written", written(plain, masked));
+    t.check(" each parity byte", each_wrong_byte(plain, masked));
+    t.check(" P alone", p_alone(plain, masked));
 }

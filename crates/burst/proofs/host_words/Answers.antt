@@ -1,60 +1,45 @@
--- `burst::host_words` meets its contract. The loop's invariant: the run so far (`Standing`). Assumes nothing.
-use mathlib.Core.Path.{◌≡◌, sym, ◌∙◌, ap, subst}
-use mathlib.Core.List.{List}
-use Prim.Native.Nat.{ℕ, ◌+◌, ◌-◌, ◌<◌, ◌≤◌}
-use native.Mathlib.Omega.{arith}
-use lib.ListN.{length}
+-- `burst::host_words` meets its contract. Assumes nothing.
+use Rattle.std.proofs.Common.{◌≡◌, sym, ◌∙◌, ap, subst, ℕ, ◌+◌, ◌-◌, List, length, arith}
 use borrow.Rule.Slice.PartMut.{put_mid}
 use Rattle.laws.proofs.Ends.{put_length}
 use Rattle.laws.proofs.Parts.{put_rest, mid_rest}
-use Rattle.burst.proofs.Turns.{Standing, begins, over_told, over_written, full, ended, kept, more}
+use Rattle.burst.specs.Burst.{refusal_number}
+use Rattle.burst.proofs.Turns.{Standing, full_told, full_written, more}
 use Rattle.burst.proofs.host_words.Goals as goal
 
-pub loop-handed-init : goal.loop-handed-init
-loop-handed-init c = begins _ _ _
-
-pub returns-then-turned-eq0 : goal.returns-then-turned-eq0
-returns-then-turned-eq0 c =
-    let t = c.turn-turned in
-    let l = c.loop-handed in
+pub loop-burst-preserved : goal.loop-burst-preserved
+loop-burst-preserved c =
     let a = c.args in
-    let e = t.new.out in
-    let z : t.result.handed ≡ 0 = omega arith in
-    let lent = mid_rest l.handed l.out in
-    let end = ended a.ring.now a.out.now a.chip l.out l.at l.handed l.invariant _ e lent t.result t.ensures.run t.ensures.rest.1 z in record {
-      told = over_told a.ring.now a.out.now a.chip l.out l.at l.handed l.invariant t.result.number end;
-      words = put_rest l.handed l.out e
-          ∙ kept a.ring.now a.out.now a.chip l.out l.at l.handed l.invariant _ e lent t.result t.ensures.run t.ensures.rest.1 z
-          ∙ over_written a.ring.now a.out.now a.chip l.out l.at l.handed l.invariant t.result.number end;
+    let l = c.loop-burst in
+    let b = l.burst in
+    let s = l.invariant.standing in
+    let e = c.turn.new.out in
+    let t = c.in-Ok.ensures in
+    let long : length (put_mid b.handed (length l.out - b.handed) l.out e) ≡ length l.out = put_length l.out e b.handed (omega arith) c.turn.auto.out in
+    let put = put_rest b.handed l.out e in
+    record {
+      standing =
+          subst (λ (x : List ℕ). Standing a.ring.now a.out.now a.chip x c.in-Ok.turn.chip (b.handed + c.in-Ok.turn.handed)) (sym put)
+          (more a.ring.now a.out.now a.chip l.out b.chip b.handed s _ e (mid_rest b.handed l.out) c.in-Ok.turn t.run t.rest t.some.1
+          (ap (λ (x : List ℕ). length x) (sym put) ∙ long ∙ s.long));
+      none = l.invariant.none;
     }
 
-pub loop-handed-smaller : goal.loop-handed-smaller
-loop-handed-smaller c =
-    let t = c.turn-turned in
-    let l = c.loop-handed in
-    let long = l.invariant.long in
-    let some : 0 < t.result.handed = omega (arith, c.if-turned-eq0.false) in
-    let before : l.handed < length l.out = omega (arith, c.loop-handed-test.true) in
-    omega (arith, some, before, long)
-
-pub loop-handed-preserved : goal.loop-handed-preserved
-loop-handed-preserved c =
-    let t = c.turn-turned in
-    let l = c.loop-handed in
+pub returns-clause-told : goal.returns-clause-told
+returns-clause-told c =
     let a = c.args in
-    let e = t.new.out in
-    let z : t.result.handed ≡ 0 → ⊥ = λ z. omega arith in
-    let lent = mid_rest l.handed l.out in
-    let long : length (put_mid l.handed (length l.out - l.handed) l.out e) ≡ length l.out = put_length l.out e l.handed (omega arith) t.auto.out in
-    let put = put_rest l.handed l.out e in
-    subst (λ (x : List ℕ). Standing a.ring.now a.out.now a.chip x t.result.chip (l.handed + t.result.handed)) (sym put)
-    (more a.ring.now a.out.now a.chip l.out l.at l.handed l.invariant _ e lent t.result t.ensures.run t.ensures.rest.1 z t.ensures.rest.0
-    (ap (λ (x : List ℕ). length x) (sym put) ∙ long ∙ l.invariant.long))
+    let l = c.loop-burst in
+    let b = l.burst in
+    let s = l.invariant.standing in
+    let long = s.long in
+    ap (λ (k : ℕ). record { chip = b.chip; handed = b.handed; number = k }) (ap refusal_number l.invariant.none)
+    ∙ full_told a.ring.now a.out.now a.chip l.out b.chip b.handed s (omega arith)
 
-pub returns : goal.returns
-returns c =
-    let l = c.loop-handed in
+pub returns-clause-words : goal.returns-clause-words
+returns-clause-words c =
     let a = c.args in
-    let long = l.invariant.long in
-    let past : length a.out.now ≤ l.handed = omega arith in
-    let end = full a.ring.now a.out.now a.chip l.out l.at l.handed l.invariant past in record { told = over_told a.ring.now a.out.now a.chip l.out l.at l.handed l.invariant 0 end; words = over_written a.ring.now a.out.now a.chip l.out l.at l.handed l.invariant 0 end }
+    let l = c.loop-burst in
+    let b = l.burst in
+    let s = l.invariant.standing in
+    let long = s.long in
+    full_written a.ring.now a.out.now a.chip l.out b.chip b.handed s (omega arith)

@@ -1,11 +1,10 @@
--- `burst::host_words` meets its contract. The loop's invariant: the run so far (`Standing`). Assumes nothing.
-use Prim.Native.Nat.{◌-◌}
-use lib.ListN.{length}
+-- The loop of `burst::host_words`: the run so far (`Standing`), and no refusal yet. Assumes nothing.
+use Rattle.std.proofs.Common.{◌≡◌, ◌-◌, None, length}
 use Rattle.burst.proofs.Turns.{Standing}
 use Rattle.burst.proofs.host_words.Given as goal
 
-abbrev pub invariant-loop-handed : goal.invariant-loop-handed
-invariant-loop-handed l = Standing l.ring l.initial.out l.initial.at l.out l.at l.handed
+abbrev pub invariant-loop-burst : goal.invariant-loop-burst
+invariant-loop-burst l = record { standing : Standing l.ring l.initial.out l.fn.chip l.out l.burst.chip l.burst.handed; none : l.burst.refusal ≡ None }
 
-abbrev pub decreases-loop-handed : goal.decreases-loop-handed
-decreases-loop-handed l = length l.initial.out - l.handed
+abbrev pub decreases-loop-burst : goal.decreases-loop-burst
+decreases-loop-burst l = length l.initial.out - l.burst.handed

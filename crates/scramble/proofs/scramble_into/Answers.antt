@@ -1,20 +1,23 @@
 -- `scramble::scramble_into` meets its contract. Assumes nothing.
-use mathlib.Core.Path.{◌≡◌, ap, ap₂, ◌∙◌}
-use mathlib.Core.List.{List, ◌++◌}
-use Prim.Native.Nat.{ℕ}
-use native.Mathlib.Omega.{arith}
-use lib.ListN.{length, drop, length-drop, length-append}
-use lib.Seq.{length-take-le, take_at}
-use Rattle.scramble.specs.Scramble.{xored, scrambled}
-use Rattle.scramble.proofs.Scrambled.{put_from_12, mid_from_12}
+use Rattle.std.proofs.Common.{arith, ◌≡◌, ◌∙◌, ap, length, length-append, length-drop, take, drop, get_or-take}
+use Rattle.std.proofs.lemmas.List.{get_or_append_left, length-take-le}
+use Rattle.scramble.proofs.Scrambled.{scrambled_is}
 use Rattle.scramble.proofs.scramble_into.Goals as goal
 
-pub returns : goal.returns
-unfolding scrambled
-returns c =
+pub loop-i-init : goal.loop-i-init
+loop-i-init c =
+    let y = c.copy_from_slice.new.self in
     let s = c.args.src.now in
-    let y = c.copy_from_slice in
-    let front : length y.new.self ≡ 12 = ap length y.ensures.after ∙ length-take-le 12 s (omega arith) in
-    put_from_12 (y.new.self ++ drop 12 c.args.dst.now) c.xor_into.new.dst (omega (arith, length-append {A = ℕ}, length-drop {A = ℕ}))
-    ∙ ap₂ (λ (k l : List ℕ). k ++ l) (take_at y.new.self (drop 12 c.args.dst.now) 12 front ∙ y.ensures.after)
-    (c.xor_into.ensures ∙ ap₂ xored (mid_from_12 s c.requires.src_len) c.table-t.ensures)
+    let sync : y ≡ take 12 s = c.copy_from_slice.ensures.after in
+    let front : length (take 12 s) ≡ 12 = length-take-le 12 s (omega arith) in
+    let size : length y ≡ 12 = ap length sync ∙ front in
+    record {
+      size = simp (length-append, length-drop) (omega (arith, size));
+      sync = λ k h. rw sync (get_or_append_left (take 12 s) (drop 12 c.args.dst.now) 0 k (omega arith) ∙ get_or-take 12 s k 0 h);
+      done = λ k h. absurd (omega arith);
+    }
+
+pub returns : goal.returns
+returns c =
+    let l = c.loop-i.invariant in
+    scrambled_is _ _ c.told-src l.size l.sync (λ k h. l.done k (omega arith))

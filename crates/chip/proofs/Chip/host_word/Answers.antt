@@ -1,18 +1,12 @@
 -- `chip::Chip::host_word` meets its contract. Assumes nothing.
-use Rattle.chip.proofs.Answers.{word_refused, word_place, word_in, word_handed, word_barred}
+use Rattle.std.proofs.Common.{◌∙◌, sym, ap}
+use Rattle.std.proofs.lemmas.Bool.{not-false}
+use Rattle.controller.specs.Step.{Step}
+use Rattle.chip.proofs.Answers.{word_place, word_in}
 use Rattle.chip.proofs.Chip.host_word.Goals as goal
 
-pub returns-then-not-ready : goal.returns-then-not-ready
-returns-then-not-ready c = search word_refused
+pub word_of-value-requires : goal.word_of-value-requires
+word_of-value-requires c = word_in _ _ (sym c.ready.ensures ∙ not-false _ c.in_ok-refuse_if.ensures.passed) (sym (ap (λ (q : Step). q.reply.number) c.in_ok-step.ensures))
 
-pub conclude-told-requires : goal.conclude-told-requires
-conclude-told-requires c = search word_place
-
-pub word_of-word-requires : goal.word_of-word-requires
-word_of-word-requires c = search word_in
-
-pub returns-then-reply-eq0 : goal.returns-then-reply-eq0
-returns-then-reply-eq0 c = search word_handed
-
-pub returns : goal.returns
-returns c = search word_barred
+pub conclude-requires : goal.conclude-requires
+conclude-requires c = word_place c.args.self c.args.ring.now (sym c.ready.ensures ∙ not-false _ c.in_ok-refuse_if.ensures.passed)

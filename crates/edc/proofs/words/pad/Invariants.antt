@@ -1,12 +1,14 @@
--- `edc::words::pad` meets its contract. The invariant: what is written, and then what is left of `s`, gives the code. Assumes nothing.
+-- `edc::words::pad` meets its contract. The invariant: what is written, and then what is left of the bytes, gives the code. Assumes nothing.
 use mathlib.Core.Path.{◌≡◌}
-use Prim.Native.Nat.{◌+◌, ◌-◌, ◌≤◌}
-use lib.ListN.{length, take, drop}
+use Prim.Native.Nat.{ℕ, ◌+◌, ◌≤◌}
+use lib.ListN.{length, get_or, take, drop}
 use Rattle.edc.specs.Edc.{edc}
 use Rattle.edc.proofs.words.pad.Given as goal
 
 abbrev pub invariant-loop-i : goal.invariant-loop-i
-invariant-loop-i l = (l.i ≤ l.n) × (length l.b ≡ 256) × (edc (edc 0 (take (256 - l.n + l.i) l.b)) (drop l.i l.s) ≡ edc 0 l.s)
-
-abbrev pub decreases-loop-i : goal.decreases-loop-i
-decreases-loop-i l = l.n - l.i
+invariant-loop-i l =
+    record {
+      long : length l.run ≡ 256;
+      zeros : (k : ℕ) → l.start + l.i ≤ k → get_or l.run k 0 ≡ 0;
+      total : edc (edc 0 (take (l.start + l.i) l.run)) (drop l.i l.bytes) ≡ edc 0 l.bytes;
+    }

@@ -1,11 +1,12 @@
 -- `parity::rows::in_word_order` meets its contract. Assumes nothing.
-use Prim.Native.Nat.{ℕ, ◌+◌, ◌*◌, ◌-◌, ◌/◌, ◌%◌, ◌≤◌}
+use Prim.Native.Nat.{ℕ, ◌+◌, ◌*◌, ◌-◌, ◌/◌, ◌%◌}
 use lib.ListN.{get_or, replicate}
 use Rattle.laws.proofs.Mapped.{Mapped}
 use Rattle.parity.proofs.rows.in_word_order.Given as goal
 
 abbrev pub invariant-loop-v : goal.invariant-loop-v
-invariant-loop-v l = (l.v ≤ 52) × Mapped (λ (k : ℕ). get_or l.a (50 - 2 * (k / 2) + k % 2) 0) (replicate 52 0) l.v l.t
-
-abbrev pub decreases-loop-v : goal.decreases-loop-v
-decreases-loop-v l = 52 - l.v
+invariant-loop-v l =
+    record {
+      plain : Mapped (λ (k : ℕ). get_or l.sums.plain (50 - 2 * (k / 2) + k % 2) 0) (replicate 52 0) l.v l.ordered.plain;
+      weighted : Mapped (λ (k : ℕ). get_or l.sums.weighted (50 - 2 * (k / 2) + k % 2) 0) (replicate 52 0) l.v l.ordered.weighted;
+    }

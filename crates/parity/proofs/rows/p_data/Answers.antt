@@ -1,17 +1,25 @@
 -- `parity::rows::p_data` meets its contract. Assumes nothing.
-use mathlib.Core.Path.{refl, ap, ◌∙◌}
-use Prim.Native.Nat.{◌+◌}
-use lib.ListN.{length}
-use Rattle.laws.proofs.Listed.{length_listed}
+use mathlib.Core.Path.{refl, subst}
+use Prim.Native.Nat.{ℕ}
+use native.Mathlib.Omega.{arith}
 use Rattle.parity.proofs.Coded.{p_summed}
 use Rattle.parity.proofs.Lanes.{sums_none}
-use Rattle.parity.specs.Layout.{value_at}
+use Rattle.parity.proofs.RowLaws.{p_step}
+use Rattle.parity.specs.Rows.{view, AreSums, p_lane}
 use Rattle.parity.proofs.rows.p_data.Goals as goal
 
-pub p_sums-requires : goal.p_sums-requires
-p_sums-requires c =
-    record { first_len = (ap length c.first_row-first.ensures ∙ length_listed 86 (λ k. value_at c.args.masked c.args.s.now (12 + k)), c.requires); sums = sums_none _ _ 86 _ _ refl refl (λ u h. refl) }
+pub loop-i-init : goal.loop-i-init
+loop-i-init c =
+    p_step (view c.first_row-first.result c.args.sector.now) 0 _ c.none-sums.result.plain c.none-sums.result.weighted _ _ c.row.ensures
+    (sums_none _ _ 86 _ _ c.none-sums.ensures.0 c.none-sums.ensures.1 (λ u h. refl)) c.take_in.ensures
+
+pub loop-i-preserved : goal.loop-i-preserved
+loop-i-preserved c =
+    let l = c.loop-i in
+    p_step (view c.first_row-first.result c.args.sector.now) l.i _ l.sums.plain l.sums.weighted _ _ c.row-in-loop-i.ensures l.invariant c.take_in-in-loop-i.ensures
 
 pub returns : goal.returns
 returns c =
-    p_summed c.args.masked c.args.s.now _ _ _ c.first_row-first.ensures c.p_sums.ensures
+    let l = c.loop-i in
+    p_summed c.args.masked c.args.sector.now _ _ _ c.first_row-first.ensures
+    (subst (λ (k : ℕ). AreSums (p_lane (view c.first_row-first.result c.args.sector.now)) (λ u. k) 86 l.sums.plain l.sums.weighted) (omega arith) l.invariant)

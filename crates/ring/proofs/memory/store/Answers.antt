@@ -10,4 +10,4 @@ pub returns : goal.returns
 returns c =
     let s = c.args in
     let r = s.ring.now in
-    let put = c.receive in record { judged = ap (λ (x : Received). x.judgement) put.ensures; ring = put_part (s.b * 2560) 2352 r put.new.block ∙ ap (λ (x : Received). stored r s.b x.bytes) put.ensures }
+    let put = c.fill in record { judged = ap (λ (x : Received). x.judgement) put.ensures; ring = put_part (s.b * 2560) 2352 r put.new.part ∙ ap (λ (x : Received). stored r s.b x.bytes) put.ensures }

@@ -1,45 +1,34 @@
 -- `script::call::disc` meets its contract. Assumes nothing.
-use Rattle.std.proofs.Common.{ℕ, replicate, ap, ◌∙◌, arith}
-use Rattle.chip.specs.Calls.{Lent}
-use Rattle.script.specs.Answers.{unchanged, of_told}
-use Rattle.script.specs.declared.call.Answer.{Answer}
-use Rattle.script.proofs.Answering.{admitted, disc_not, disc_done}
+use Rattle.std.proofs.Common.{◌≡◌, replicate, length, ◌∙◌, sym, arith}
+use Rattle.std.proofs.lemmas.Grind.{common_steps}
+use Rattle.std.proofs.lemmas.Result.{err_from_is_err_and}
+use Rattle.script.proofs.Answering.{admitted, never_unsealed, disc_run}
 use Rattle.script.proofs.call.disc.Goals as goal
 
-pub returns-then-number-ne0 : goal.returns-then-number-ne0
-returns-then-number-ne0 c =
+pub returns-in_err-seal : goal.returns-in_err-seal
+returns-in_err-seal c =
     let a = c.args in
-    let R = a.ring.now in
-    let S = a.sector.now in
-    let number = c.disc_number-number in
-    ap (unchanged R S) c.refused.ensures ∙ disc_not a.chip a.carried R S a.address a.byte number.result number.ensures c.if-number-ne0.true
-
-pub overflow_cast-byte : goal.overflow_cast-byte
-overflow_cast-byte c =
-    let a = c.args in
-    let number = c.disc_number-number in
-    let h = admitted a.chip a.carried a.ring.now a.sector.now a.address a.byte number.result number.ensures c.if-number-ne0.false in
-    record { fits = omega (arith, h.1.0) }
+    let f : c.fill.new.self ≡ replicate (length a.sector.now) c.in_ok-byte.byte = grind (arith, common_steps) in
+    absurd (never_unsealed a.chip a.carried a.ring.now a.sector.now a.address a.fill c.in_ok-byte.ensures.number _ _ f c.in_ok-byte.ensures.fill _ c.in_err-seal.ensures.0)
 
 pub scratch-requires : goal.scratch-requires
 scratch-requires c =
     let a = c.args in
-    let number = c.disc_number-number in
-    let size = (admitted a.chip a.carried a.ring.now a.sector.now a.address a.byte number.result number.ensures c.if-number-ne0.false).0 in
-    c.seal.auto.sector ∙ c.fill.auto.bytes ∙ size
+    c.seal.auto.sector ∙ c.fill.auto.self ∙ (admitted a.chip a.carried a.ring.now a.sector.now a.address a.fill (sym c.in_ok-byte.ensures.number)).0
+
+pub returns-in_err-sector : goal.returns-in_err-sector
+returns-in_err-sector c =
+    let a = c.args in
+    let f : c.fill.new.self ≡ replicate (length a.sector.now) c.in_ok-byte.byte = grind (arith, common_steps) in
+    let p = err_from_is_err_and c.from_residual-in_err-sector.result c.from_residual-in_err-sector.ensures.1 in
+    rw (p.1, p.2)
+    (disc_run a.chip a.carried a.ring.now a.sector.now a.address a.fill c.in_ok-byte.ensures.number _ _ f c.in_ok-byte.ensures.fill
+    _ _ _ _ c.in_ok-seal.ensures.1 c.scratch.ensures c.in_err-sector.ensures)
 
 pub returns : goal.returns
 returns c =
     let a = c.args in
-    let R = a.ring.now in
-    let S = a.sector.now in
-    let number = c.disc_number-number in
-    let brought = c.sector in
-    let scratch = c.scratch in
-    let seal = c.seal in
-    let filled = c.fill in
-    let size = (admitted a.chip a.carried R S a.address a.byte number.result number.ensures c.if-number-ne0.false).0 in
-    ap (λ (r : Answer). record { answer = r; memory = brought.new.ring; sector = scratch.new.sector }) c.told.ensures
-    ∙ ap (λ (l : Lent). record { answer = of_told l.told; memory = l.ring; sector = scratch.new.sector }) brought.ensures
-    ∙ disc_done a.chip a.carried R S a.address a.byte number.result number.ensures c.if-number-ne0.false filled.new.bytes seal.new.sector scratch.new.sector
-    (filled.ensures ∙ ap (λ (n : ℕ). replicate n a.byte) size) seal.ensures.1 scratch.ensures
+    let f : c.fill.new.self ≡ replicate (length a.sector.now) c.in_ok-byte.byte = grind (arith, common_steps) in
+    rw c.into.ensures
+    (disc_run a.chip a.carried a.ring.now a.sector.now a.address a.fill c.in_ok-byte.ensures.number _ _ f c.in_ok-byte.ensures.fill
+    _ _ _ _ c.in_ok-seal.ensures.1 c.scratch.ensures c.in_ok-sector.ensures)

@@ -1,41 +1,25 @@
--- `syntax::form::form` meets its contract. The loop's invariant: what is written, and behind it the form of what is left, is the line's form.
--- Assumes nothing.
-use mathlib.Core.Path.{refl, sym, ◌∙◌}
-use mathlib.Core.List.{append-nil}
-use Prim.Native.Nat.{◌<◌, ◌≤◌}
-use native.Mathlib.Omega.{arith}
-use lib.ListN.{length, take, length-set}
-use Rattle.syntax.proofs.Reading.{grows_le, form_step, form_end}
+-- `syntax::form::form` meets its contract. Assumes nothing.
+use Rattle.std.proofs.Common.{◌≡◌, ◌<◌, ◌&&◌, length, take, sym, ◌∙◌, arith, length-set, append-nil}
+use Rattle.std.specs.Prelude.{if◌then◌else◌}
+use Rattle.syntax.proofs.Reading.{flip, grows_le, form_step, form_end}
 use Rattle.syntax.proofs.form.form.Goals as goal
 
-pub loop-i-init : goal.loop-i-init
-loop-i-init c = (omega arith, omega arith, refl, refl)
-
-pub overflow_add-at : goal.overflow_add-at
-overflow_add-at c = let g = grows_le c.loop-i.inside _ c.grows-at.result c.grows-at.ensures in omega (arith, g)
-
-pub loop-i-preserved : goal.loop-i-preserved
-loop-i-preserved c =
-    let a = c.args in
-    let l = c.loop-i in
-    let mark = c.mark in
-    let grows = c.grows-at in
-    let X = a.line.now in
-    let hi : l.i < length X = omega arith in
-    let hk : l.at < length l.out = omega arith in
-    let g = grows_le l.inside _ grows.result grows.ensures in (
-      omega arith,
+pub loop-byte-preserved : goal.loop-byte-preserved
+loop-byte-preserved c =
+    let l = c.loop-byte in
+    let X = c.args.line.now in
+    let d = c.is_ascii_digit-digit in
+    let hi : l.byte-index < length X = omega arith in
+    let hk : l.at < length l.space = omega arith in
+    let eg : c.from-at.result ≡ (if l.inside && d.result then 0 else 1) = flip (l.inside && d.result) c.from-at.ensures in
+    let g = grows_le (l.inside && d.result) eg in (
       omega (arith, g),
-      length-set l.out l.at mark.result ∙ l.invariant.2,
-      form_step l.inside c.digit-inside.result l.i l.at grows.result mark.result X l.out hi hk mark.ensures grows.ensures
-          c.digit-inside.ensures
-          ∙ l.invariant.3,
+      length-set l.space l.at c.mark.result ∙ l.invariant.1,
+      form_step l.inside d.result l.byte-index l.at c.from-at.result c.mark.result X l.space hi hk c.mark.ensures eg d.ensures.value ∙ l.invariant.2,
     )
 
 pub returns : goal.returns
 returns c =
-    let a = c.args in
-    let l = c.loop-i in
-    let X = a.line.now in
-    let h : length X ≤ l.i = omega arith in
-    record { within = omega arith; form = sym (append-nil _) ∙ sym (form_end l.inside X l.i (take l.at l.out) h) ∙ l.invariant.3 }
+    let l = c.loop-byte in
+    let X = c.args.line.now in
+    sym (append-nil _) ∙ sym (form_end l.inside X l.byte-index (take l.at l.space) (omega arith)) ∙ l.invariant.2

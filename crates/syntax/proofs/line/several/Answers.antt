@@ -1,43 +1,16 @@
--- `syntax::line::several` meets its contract. Assumes nothing.
-use mathlib.Core.Path.{sym, ◌∙◌}
-use Rattle.laws.proofs.Choice.{if_true, if_false}
+-- `syntax::line::several` meets its contract: here none of its forms is the line's. Assumes nothing.
+use Rattle.std.proofs.Common.{sym, ◌∙◌}
+use Rattle.syntax.specs.Forms.{write_form, window_form, address_form}
 use Rattle.syntax.specs.Grammar.{several}
+use Rattle.syntax.proofs.Reading.{unlike}
 use Rattle.syntax.proofs.line.several.Goals as goal
-
-pub returns-then-equal : goal.returns-then-equal
-unfolding several
-returns-then-equal c = sym (if_true _ _ _ (sym c.equal.ensures ∙ c.if-equal.true))
-
-pub returns-then-equal-2 : goal.returns-then-equal-2
-unfolding several
-returns-then-equal-2 c =
-    let equal = c.equal in
-    let if1 = c.if-equal in
-    let equal2 = c.equal-2 in
-    sym (if_false _ _ _ (sym equal.ensures ∙ if1.false) ∙ if_true _ _ _ (sym equal2.ensures ∙ c.if-equal-2.true))
-
-pub returns-then-equal-3 : goal.returns-then-equal-3
-unfolding several
-returns-then-equal-3 c =
-    let equal = c.equal in
-    let if1 = c.if-equal in
-    let equal2 = c.equal-2 in
-    let if2 = c.if-equal-2 in
-    let equal3 = c.equal-3 in
-    sym (if_false _ _ _ (sym equal.ensures ∙ if1.false)
-    ∙ if_false _ _ _ (sym equal2.ensures ∙ if2.false)
-    ∙ if_true _ _ _ (sym equal3.ensures ∙ c.if-equal-3.true))
 
 pub returns : goal.returns
 unfolding several
 returns c =
-    let equal = c.equal in
-    let if1 = c.if-equal in
-    let equal2 = c.equal-2 in
-    let if2 = c.if-equal-2 in
-    let equal3 = c.equal-3 in
-    let if3 = c.if-equal-3 in
-    c.disc.ensures
-    ∙ sym (if_false _ _ _ (sym equal.ensures ∙ if1.false)
-    ∙ if_false _ _ _ (sym equal2.ensures ∙ if2.false)
-    ∙ if_false _ _ _ (sym equal3.ensures ∙ if3.false))
+    let f = c.args.form.now in
+    c.disc.ensures ∙ sym (simp (
+      unlike f write_form c.as_slice.ensures c.eq.ensures c.if-eq.false,
+      unlike f window_form c.as_slice-2.ensures c.eq-2.ensures c.if-eq-2.false,
+      unlike f address_form c.as_slice-3.ensures c.eq-3.ensures c.if-eq-3.false,
+    ))

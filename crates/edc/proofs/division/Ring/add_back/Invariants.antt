@@ -1,0 +1,6 @@
+-- `edc::division::Ring::add_back` meets its contract. The invariant: the words below `i` have theirs xored in. Assumes nothing.
+use Rattle.edc.proofs.Ring.{Back}
+use Rattle.edc.proofs.division.Ring.add_back.Given as goal
+
+abbrev pub invariant-loop-i : goal.invariant-loop-i
+invariant-loop-i l = Back l.back l.initial.self.words l.self.words l.i

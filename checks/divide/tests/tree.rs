@@ -96,7 +96,7 @@ fn the_exported_calls_reach_most_functions() {
         assert!(sources.from_calls.contains(&title.to_string()), "{title} of {:?}", sources.from_calls);
     }
     assert!(sources.calls >= 20, "{}", sources.calls);
-    assert!(!sources.from_calls.contains(&"syntax::decimal".to_string()), "the bench prints, and no other call");
+    assert!(!sources.from_calls.contains(&"syntax::Writer::decimal".to_string()), "the bench prints, and no other call");
 }
 
 #[test]
@@ -271,7 +271,7 @@ fn what_is_no_code_is_not_found() {
         "fn is_bcd_of(byte: u8, n: u16) -> bool\n ensures { λ r. ⌜ { n / 10 } % 3 ≡ f(r) ⌝ }",
     );
     assert_eq!(all_found(&clause), unchanged);
-    let ghost = with_text(HEADER, "use super::Address;", "ghost use Prim.Native.Nat.{_/_, _%_, _*_};");
+    let ghost = with_text(HEADER, "use crate::{Address, Subheader};", "ghost use Prim.Native.Nat.{_/_, _%_, _*_};");
     assert_eq!(all_found(&ghost), unchanged);
 }
 
@@ -306,6 +306,6 @@ fn the_listing_has_every_division() {
     let bench =
         text.lines().find(|line| line.ends_with(": cdrom_bench, program bench")).expect("what only the bench reaches");
     let letter = bench.split(':').next().unwrap();
-    let decimal = text.lines().find(|line| line.starts_with("  decimal: / 10 (line ")).expect("decimal numbers");
+    let decimal = text.lines().find(|line| line.starts_with("  Writer::decimal: / 10 (line ")).expect("decimal numbers");
     assert!(decimal.ends_with(&format!("[{letter}]")), "{text}");
 }

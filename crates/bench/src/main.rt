@@ -114,14 +114,14 @@ impl Runner {
 
 // Writes answers.
 fn put<R: Print>(rt: &R, output: &[u8]) -> Result<(), Failure> {
-    rt.write_all(output).map_err(|error| Failure::Write(error))
+    rt.write_all(output).map_err(Failure::Write)
 }
 
 // Reads once, and gives how many bytes came: none where the input has ended.
 fn read<I: Read>(from: &mut I, input: &mut [u8]) -> Result<usize, Failure>
     ensures { IfOk result (λ got. got ≤ length input.new) }
 {
-    from.read(input).map_err(|error| Failure::Read(error))
+    from.read(input).map_err(Failure::Read)
 }
 
 // Moves what was read of a line with no end yet to the front, and gives its length.

@@ -1,19 +1,22 @@
 -- A turn of a burst: one word or its refusal, or the words inside a block; and turns one after the other. Assumes nothing.
-use Rattle.std.specs.Prelude.{Result, Ok, Err}
+use Rattle.std.specs.Prelude.{Result, Ok, Err, Option, None}
 use Prim.Native.Nat.{ℕ, suc, ◌+◌, ◌-◌, ◌<◌, ◌≤◌}
-use mathlib.Core.Path.{◌≡◌, refl, sym, ◌∙◌, ap, ap₂, subst}
+use mathlib.Core.Path.{◌≡◌, sym, ◌∙◌, ap, ap₂, subst}
 use mathlib.Core.List.{List, [], ◌∷◌, ◌++◌, append_assoc, append-nil}
 use native.Mathlib.Omega.{arith}
 use lib.ListN.{length, take, drop, set, length-drop, take-append-drop}
 use lib.Seq.{length-take-le, take_at, drop-drop, take-append-add, drop-append-add}
+use borrow.Rule.Slice.PartMut.{put_mid, mid_of}
 use Rattle.laws.specs.Bytes.{words_at}
+use Rattle.laws.proofs.Ends.{put_length}
+use Rattle.laws.proofs.Parts.{put_rest, mid_rest}
 use Rattle.laws.proofs.Words.{words_length}
 use Rattle.chip.specs.Calls.{next_place, word_told}
 use Rattle.reply.specs.declared.Refusal.{Refusal}
 use Rattle.chip.specs.declared.Accepted.{Accepted}
 use Rattle.chip.specs.declared.Chip.{Chip}
 use Rattle.chip.specs.Told.{WordTold, word_told_of}
-use Rattle.burst.specs.Burst.{Run, run, prepend, by_word, host_words, told_of, written, ahead, advanced, handed_by, following}
+use Rattle.burst.specs.Burst.{Run, run, prepend, by_word, host_words, told_of, refusal_number, written, ahead, advanced, handed_by, following}
 use Rattle.burst.specs.declared.Turned.{Turned}
 use Rattle.burst.proofs.Blocks.{inside_of, run_opened, inside_run}
 
@@ -57,11 +60,6 @@ pub record Standing (ring out₀ : List ℕ) (c₀ : Chip) (out : List ℕ) (c :
   pub long : length out ≡ length out₀
   pub within : h ≤ length out₀
 
-pub begins : (ring out : List ℕ) (c : Chip) → Standing ring out c out c 0
-begins ring out c =
-    let e : length out ≡ length out - 0 = omega arith in
-    record { ran = ap (λ (k : ℕ). host_words k c ring) e; behind = refl; long = refl; within = omega arith }
-
 module _ (ring out₀ : List ℕ) (c₀ : Chip) (out : List ℕ) (c : Chip) (h : ℕ) (so : Standing ring out₀ c₀ out c h) where
   front_long : length (take h out) ≡ h
   front_long = length-take-le h out (subst (λ (k : ℕ). h ≤ k) (sym so.long) so.within)
@@ -84,28 +82,30 @@ module _ (ring out₀ : List ℕ) (c₀ : Chip) (out : List ℕ) (c : Chip) (h :
   unfolding host_words
   full l = let e : length out₀ - h ≡ 0 = omega arith in ap (λ (k : ℕ). host_words k c ring) e
 
-  module _ (past : length out₀ ≤ h) where
-    pub full_told : record { chip = c; handed = h; number = 0 } ≡ told_of (host_words (length out₀) c₀ ring)
-    full_told = over_told 0 (full past)
+  pub full_told : length out₀ ≤ h → {r : Option Refusal} → r ≡ None → record { chip = c; handed = h; number = refusal_number r } ≡ told_of (host_words (length out₀) c₀ ring)
+  full_told past none = ap (λ (r : Option Refusal). record { chip = c; handed = h; number = refusal_number r }) none ∙ over_told 0 (full past)
 
-    pub full_written : out ≡ written (host_words (length out₀) c₀ ring) out₀
-    full_written = over_written 0 (full past)
+  pub full_written : length out₀ ≤ h → out ≡ written (host_words (length out₀) c₀ ring) out₀
+  full_written past = over_written 0 (full past)
 
-  -- a turn over what is left of the words that were lent
-  module _ (s e : List ℕ) (lent : s ≡ drop h out) where
-    lent_long : length s ≡ length out₀ - h
-    lent_long = ap (λ (l : List ℕ). length l) lent ∙ length-drop h out ∙ ap (λ (k : ℕ). k - h) so.long
+  -- a turn over what is left of the words that were lent, which leaves e there
+  module _ (e : List ℕ) where
+    abbrev left : List ℕ
+    left = mid_of h (length out - h) out
 
-    there : {r : Run} → host_words (length s) c ring ≡ r → host_words (length out₀ - h) c ring ≡ r
-    there turned = ap (λ (k : ℕ). host_words k c ring) (sym lent_long) ∙ turned
+    left_long : length left ≡ length out₀ - h
+    left_long = ap (λ (l : List ℕ). length l) (mid_rest h out) ∙ length-drop h out ∙ ap (λ (k : ℕ). k - h) so.long
 
-    pub more : (t : Turned) → host_words (length s) c ring ≡ prepend (take t.handed e) (host_words (length s - t.handed) t.chip ring)
-        → drop t.handed e ≡ drop t.handed s → t.handed ≤ length s → length (take h out ++ e) ≡ length out₀
+    there : {r : Run} → host_words (length left) c ring ≡ r → host_words (length out₀ - h) c ring ≡ r
+    there turned = ap (λ (k : ℕ). host_words k c ring) (sym left_long) ∙ turned
+
+    after : (t : Turned) → host_words (length left) c ring ≡ prepend (take t.handed e) (host_words (length left - t.handed) t.chip ring)
+        → drop t.handed e ≡ drop t.handed left → t.handed ≤ length left → length (take h out ++ e) ≡ length out₀
         → Standing ring out₀ c₀ (take h out ++ e) t.chip (h + t.handed)
-    more t turned rest fit long =
+    after t turned rest fit long =
         let k = t.handed in
-        let r = host_words (length s - k) t.chip ring in
-        let left : length s - k ≡ length out₀ - (h + k) = omega (arith, lent_long) in
+        let r = host_words (length left - k) t.chip ring in
+        let fewer : length left - k ≡ length out₀ - (h + k) = omega (arith, left_long) in
         let front : take (h + k) (take h out ++ e) ≡ take h out ++ take k e =
         ap (λ (i : ℕ). take (i + k) (take h out ++ e)) (sym front_long) ∙ take-append-add (take h out) e k
         in
@@ -116,8 +116,15 @@ module _ (ring out₀ : List ℕ) (c₀ : Chip) (out : List ℕ) (c : Chip) (h :
           ran =
               so.ran ∙ ap (prepend (take h out)) (there turned)
               ∙ ap (λ (l : List ℕ). run r.chip l r.number) (sym (append_assoc (take h out) (take k e) r.words))
-              ∙ ap₂ (λ (l : List ℕ) (i : ℕ). prepend l (host_words i t.chip ring)) (sym front) left;
-          behind = behind ∙ rest ∙ ap (drop k) lent ∙ ap (drop k) so.behind ∙ drop-drop k h out₀;
+              ∙ ap₂ (λ (l : List ℕ) (i : ℕ). prepend l (host_words i t.chip ring)) (sym front) fewer;
+          behind = behind ∙ rest ∙ ap (drop k) (mid_rest h out) ∙ ap (drop k) so.behind ∙ drop-drop k h out₀;
           long = long;
-          within = omega (arith, lent_long, fit, so.within);
+          within = omega (arith, left_long, fit, so.within);
         }
+
+    pub more : length e ≡ length left → {t : Turned} → host_words (length left) c ring ≡ prepend (take t.handed e) (host_words (length left - t.handed) t.chip ring)
+        → drop t.handed e ≡ drop t.handed left → t.handed ≤ length left → Standing ring out₀ c₀ (put_mid h (length out - h) out e) t.chip (h + t.handed)
+    more same {t = t} turned rest fit =
+        let put = put_rest h out e in
+        subst (λ (x : List ℕ). Standing ring out₀ c₀ x t.chip (h + t.handed)) (sym put)
+        (after t turned rest fit (ap (λ (x : List ℕ). length x) (sym put) ∙ put_length out e h (omega (arith, so.long, so.within)) same ∙ so.long))

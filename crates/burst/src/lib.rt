@@ -13,7 +13,6 @@ use chip::Chip;
 use controller::Controller;
 use copy::copy_words;
 use reply::Refusal;
-use ring::BLOCK;
 
 // The chip after a burst, how many words were handed over, and the refusal that ended it, if one did.
 #[derive(Clone, Copy, Debug, PartialEq, Eq)]
@@ -34,7 +33,7 @@ pub fn ahead(chip: Chip, ring: &[u8]) -> u16
         window,
         ..
     } = chip.controller;
-    if !(chip.ready(ring) & transfer.running) {
+    if !(chip.ready(ring) && transfer.running) {
         return 0;
     }
     window
@@ -78,9 +77,7 @@ fn inside(chip: Chip, ring: &[u8], out: &mut [u16]) -> Chip
         ..
     } = chip.controller;
     let count = out.len() as u16;
-    let from = chip.place.t as usize * BLOCK
-        + window.offset as usize
-        + 2 * transfer.position as usize;
+    let from = ring::window_start(chip.place.t, window.offset) + 2 * usize::from(transfer.position);
     copy_words(ring, from, out);
     advanced(chip, count)
 }
@@ -117,6 +114,7 @@ fn turn(chip: Chip, ring: &[u8], out: &mut [u16]) -> Result<Turned, Refusal>
 
 // As many words as `out` has room for, until one is refused.
 // Ruled out: one that hands over a word more or less at a block's end, and one that writes behind the words that it hands over.
+#[tactic(auto, using(crate::proofs::Turns::full_told, crate::proofs::Turns::full_written))]
 pub fn host_words(chip: Chip, ring: &[u8], out: &mut [u16]) -> Burst
     ensures told { burst_told result ≡ told_of (host_words (length out.old) chip ring.now) }
     ensures words { out.new ≡ written (host_words (length out.old) chip ring.now) out.old }

@@ -63,6 +63,14 @@ called_barred c call r is h ep e =
     sym (barred c r) ∙ ap (λ (q : Step). finished c.place (concluded q)) (e ∙ ap (stepped c.controller call) ep)
     ∙ sym (if_true (sound c) (finished c.place (concluded (stepped c.controller call (ring_facts c.place)))) (refused c 1) (sym is ∙ not-false _ h))
 
+-- what a step and its conclusion ask of the record
+module _ (c : Chip) (h : sound c ≡ true) where
+  pub sound_received : c.controller.packet.received < 6
+  sound_received = (sound_facts c h).received_in
+
+  pub sound_place : PlaceSound c.place
+  sound_place = (sound_facts c h).place
+
 -- a sound record with a lent ring of its N blocks
 pub record Ready (c : Chip) (ring : List ℕ) : Type 0 where
   pub facts : SoundFacts c

@@ -6,7 +6,7 @@ mod memory;
 mod plain;
 mod sound;
 
-ghost use Rattle.std.specs.Prelude.{◌≡◌};
+ghost use Rattle.std.specs.Prelude.{◌≡◌, ◌&&◌, leb};
 ghost use Rattle.controller.specs.Step.{accepted};
 ghost use Rattle.controller.specs.Transfer.{concluded};
 ghost use Rattle.ring.specs.Place.{PlaceSound};
@@ -39,7 +39,7 @@ pub struct Part {
 
 impl Chip {
     // A record of no blocks, which every call but the opening refuses.
-    // Ruled out: a record of 3 blocks.
+    // Ruled out: a record of 3 blocks, and one with TCC 1.
     pub fn closed() -> Chip
         ensures { result ≡ closed }
     {
@@ -54,12 +54,19 @@ impl Chip {
     pub fn open(n: u16) -> Result<Chip, Refusal>
         ensures { opened_of result ≡ opened n }
     {
-        refuse_if(!((3 <= n) & (n <= 255)), Refusal::Unfit)?;
+        refuse_if(!is_ring_size(n), Refusal::Unfit)?;
         Ok(Chip {
             controller: Controller::initial(),
             place: Place::opened(n),
         })
     }
+}
+
+// Whether a ring may have so many blocks.
+fn is_ring_size(n: u16) -> bool
+    ensures { result ≡ (leb 3 n && leb n 255) }
+{
+    (3..=255).contains(&n)
 }
 
 // The end of every call for which the controller has taken its step.

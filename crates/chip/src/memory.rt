@@ -17,17 +17,17 @@ impl Chip {
     pub fn ready(self, ring: &[u8]) -> bool
         ensures { result ≡ (sound self && ring_fits self ring.now) }
     {
-        self.sound() & (ring.len() == self.place.n as usize * BLOCK)
+        self.sound() && ring.len() == usize::from(self.place.n) * BLOCK
     }
 
     // Whether a sector is taken, before a byte of it is moved: of the sector only its length is looked at.
     // Ruled out: one that admits a sector at the ring's stop, and one that answers 7 or 8 where a length is wrong.
-    #[tactic(auto, unfolding(crate::specs::Calls::sector_number))]
+    #[tactic(auto, unfolding(crate::specs::Calls::sector_number), using(crate::proofs::Answers::word_place))]
     pub fn admission(self, ring: &[u8], sector: &[u8]) -> Result<(), Refusal>
         ensures { number_of result ≡ sector_number self ring.now sector.now }
     {
         refuse_if(
-            !(self.ready(ring) & (sector.len() == LENGTH)),
+            !(self.ready(ring) && sector.len() == LENGTH),
             Refusal::Unfit,
         )?;
         self.controller.admission(self.place.full())
@@ -53,16 +53,17 @@ impl Chip {
         ensures { result ≡ look_part self ring.now }
     {
         let Chip { controller, place } = self;
-        if !(self.ready(ring) & (controller.counts.tcc != 0) & (controller.window.words != 0)) {
+        if !(self.ready(ring) && controller.counts.tcc != 0 && controller.window.words != 0) {
             return Part::default();
         }
         Part {
-            start: place.t as usize * BLOCK + controller.window.offset as usize,
-            size: 2 * controller.window.words as usize,
+            start: ring::window_start(place.t, controller.window.offset),
+            size: 2 * usize::from(controller.window.words),
         }
     }
 
     // Ruled out: one that shows block B, and one that shows a block when TCC is 0.
+    #[tactic(auto, using(crate::proofs::Answers::look_end, crate::proofs::Answers::look_shows))]
     pub fn look(self, ring: &[u8]) -> &[u8]
         ensures { result.now ≡ looked self ring.now }
     {
@@ -71,7 +72,7 @@ impl Chip {
     }
 
     // Ruled out: one whose word is constant, and one that serves block B, or counts TCC and T only at the transfer's end.
-    #[tactic(auto, unfolding(crate::specs::Calls::word_told), using(crate::proofs::Answers::word_barred))]
+    #[tactic(auto, unfolding(crate::specs::Calls::word_told), using(crate::proofs::Answers::word_place, crate::proofs::Answers::word_in, crate::proofs::Answers::word_barred))]
     pub fn host_word(self, ring: &[u8]) -> Result<Accepted, Refusal>
         ensures { word_told_of self result ≡ word_told self ring.now }
     {

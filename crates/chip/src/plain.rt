@@ -11,7 +11,7 @@ use sector::Address;
 
 impl Chip {
     // Ruled out: one that takes a step on an unsound record, and one that lets no start follow an accepted call.
-    #[tactic(auto, unfolding(crate::specs::Calls::called), using(crate::proofs::Answers::called_barred))]
+    #[tactic(auto, unfolding(crate::specs::Calls::called), using(crate::proofs::Answers::called_barred, crate::proofs::Answers::sound_received, crate::proofs::Answers::sound_place))]
     pub fn call(self, call: Call) -> Result<Accepted, Refusal>
         ensures { told_of self result ≡ called self call }
     {

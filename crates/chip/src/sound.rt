@@ -2,7 +2,7 @@
 ghost use Rattle.std.specs.Prelude.{◌≡◌};
 ghost use Rattle.chip.specs.Sound.{transfer_sound, sound};
 
-use crate::Chip;
+use crate::{Chip, is_ring_size};
 use controller::Controller;
 
 fn transfer_sound(controller: Controller) -> bool
@@ -15,7 +15,7 @@ fn transfer_sound(controller: Controller) -> bool
         ..
     } = controller;
     !transfer.running
-        | ((0 < transfer.left) & (transfer.left <= counts.tcc) & (transfer.position < window.words))
+        || (0 < transfer.left && transfer.left <= counts.tcc && transfer.position < window.words)
 }
 
 impl Chip {
@@ -30,20 +30,19 @@ impl Chip {
             buffering,
             ..
         } = controller;
-        (3 <= place.n)
-            & (place.n <= 255)
-            & (place.t < place.n)
-            & (place.b < place.n)
-            & (counts.tcc < place.n)
-            & (counts.bufc < place.n)
-            & ((window.words == 0) | window.fits())
-            & controller.expected.valid()
-            & transfer_sound(controller)
-            & (place.last < place.n)
-            & (buffering.buflim as u32 + 2 <= place.n as u32)
-            & (counts.ttc <= 255)
-            & (controller.mbc <= 31)
-            & (controller.acctl.atlim <= 31)
-            & (controller.packet.received < 6)
+        is_ring_size(place.n)
+            && place.t < place.n
+            && place.b < place.n
+            && counts.tcc < place.n
+            && counts.bufc < place.n
+            && (window.words == 0 || window.fits())
+            && controller.expected.valid()
+            && transfer_sound(controller)
+            && place.last < place.n
+            && u32::from(buffering.buflim) + 2 <= u32::from(place.n)
+            && counts.ttc <= 255
+            && controller.mbc <= 31
+            && controller.acctl.atlim <= 31
+            && controller.packet.received < 6
     }
 }

@@ -1,10 +1,11 @@
--- The bits that are named, one by one. Assumes nothing.
+-- The bits that are named, one by one, and two switches that are not the same. Assumes nothing.
+use mathlib.Core.Bool.{Bool, true, false, not, beq}
 use Rattle.std.proofs.Common.{◌≡◌, ◌∙◌, ap, ℕ, ◌+◌, ◌*◌, ◌/◌, ◌%◌, ◌^◌, ◌<◌, ◌≤◌, List, [], ◌∷◌, length, drop, get_or, bit_and, refl, arith}
 use Rattle.std.proofs.Math.Nat.{mul-le-mul_right}
 use Rattle.std.proofs.Math.Pow.{pow_mono}
 use Rattle.std.proofs.lemmas.Nat.{and_mask}
 use Rattle.std.proofs.lemmas.List.{at_drop_more}
-use Rattle.controller.specs.Bits.{kept}
+use Rattle.controller.specs.Bits.{kept, differs}
 
 kept_first : (k : ℕ) (ks : List ℕ) (v : ℕ) → kept (k ∷ ks) v ≡ v / 2 ^ k % 2 * 2 ^ k + kept ks v
 kept_first k [] v = omega arith
@@ -21,3 +22,10 @@ moved v k h =
     let most : v / 2 ^ k % 2 * 2 ^ k ≤ 1 * 2 ^ k = mul-le-mul_right (2 ^ k) (omega arith) in
     let low : 2 ^ k ≤ 32768 = pow_mono {j = 15} (omega arith) in
     (omega (arith, one, most, low), omega (arith, most, low))
+
+-- two switches that are not the same, as `!=` tests it
+pub differs_by_beq : (a b : Bool) → not (beq a b) ≡ differs a b
+differs_by_beq true true = refl
+differs_by_beq true false = refl
+differs_by_beq false true = refl
+differs_by_beq false false = refl

@@ -14,7 +14,7 @@ impl Controller {
         ensures { result ≡ at_stop self full }
     {
         if self.buffering.blims {
-            self.buffering.buflim <= self.counts.bufc
+            self.counts.bufc >= self.buffering.buflim
         } else {
             full
         }

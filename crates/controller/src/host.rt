@@ -25,10 +25,11 @@ impl Controller {
     fn ended(self) -> Controller
         ensures { result ≡ ended self }
     {
+        let ended = self.data_ended();
         if self.asctrl.ascen {
-            self.data_ended().complete()
+            ended.complete()
         } else {
-            self.data_ended()
+            ended
         }
     }
 
@@ -49,16 +50,16 @@ impl Controller {
     {
         refuse_if(!self.transfer.running, Refusal::Unready)?;
         // Wider than a position, so that the sum never wraps.
-        if self.transfer.position as u32 + 1 < self.window.words as u32 {
+        if u32::from(self.transfer.position) + 1 < u32::from(self.window.words) {
             self.transfer.position += 1;
             return Ok(self.done());
         }
-        if self.transfer.left > 1 {
-            return Ok(self.block_taken().moves(Event::Advance(1)));
-        }
         let mut taken = self.block_taken();
-        taken.transfer.running = false;
-        Ok(taken.ended().moves(Event::Advance(1)))
+        if self.transfer.left <= 1 {
+            taken.transfer.running = false;
+            taken = taken.ended();
+        }
+        Ok(taken.moves(Event::Advance(1)))
     }
 
     fn packet_begun(mut self) -> Controller
@@ -87,10 +88,10 @@ impl Controller {
         ensures { step_of self result ≡ host_command self code }
     {
         let atcmd = byte(code)?;
-        refuse_if(self.atsta.bsy | self.engaged(), Refusal::Barred)?;
+        refuse_if(self.atsta.bsy || self.engaged(), Refusal::Barred)?;
         self.hirq = false;
         self.task.atcmd = atcmd;
-        if (code == 0xA0) & self.asctrl.apkten {
+        if code == 0xA0 && self.asctrl.apkten {
             return Ok(self.packet_begun().done());
         }
         self.atsta.bsy = true;
@@ -101,7 +102,7 @@ impl Controller {
         requires { self.packet.received < 6 }
         ensures { result ≡ packet_more self word }
     {
-        let first = 2 * self.packet.received as usize;
+        let first = 2 * usize::from(self.packet.received);
         [self.packet.bytes[first], self.packet.bytes[first + 1]] = word.to_le_bytes();
         self.packet.received += 1;
         self
@@ -126,9 +127,9 @@ impl Controller {
     pub fn host_status(mut self) -> Accepted
         ensures { accepted result ≡ host_status self }
     {
-        let byte = self.atsta_byte();
+        let status = self.atsta_byte();
         self.hirq = false;
-        self.shows(byte)
+        self.shows(status)
     }
 
     pub fn host_srst(mut self) -> Accepted

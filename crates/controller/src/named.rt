@@ -16,7 +16,7 @@ impl Window {
         ensures { result ≡ window_fits self.offset self.words }
     {
         let Window { offset, words } = self;
-        (0 < words) & (words <= 1176) & (offset as u32 + 2 * words as u32 <= 2352)
+        (1..=1176).contains(&words) && u32::from(offset) + 2 * u32::from(words) <= 2352
     }
 }
 
@@ -26,10 +26,10 @@ impl Controller {
     pub fn set_block(self, block: u16, n: u16) -> Result<Accepted, Refusal>
         ensures { step_of self result ≡ set_block self block n }
     {
-        refuse_if(n <= block, Refusal::OutOfRange)?;
+        refuse_if(block >= n, Refusal::OutOfRange)?;
         refuse_if(self.transfer.running, Refusal::Barred)?;
         refuse_if(
-            self.buffering.decen | (self.counts.tcc != 0),
+            self.buffering.decen || self.counts.tcc != 0,
             Refusal::Unready,
         )?;
         Ok(self.moves(Event::Move(block)))
@@ -60,9 +60,11 @@ impl Controller {
     pub fn packet_byte(self, index: u16) -> Result<Accepted, Refusal>
         ensures { step_of self result ≡ packet_byte self index }
     {
-        refuse_if(index > 11, Refusal::OutOfRange)?;
+        let Some(&byte) = self.packet.bytes.get(usize::from(index)) else {
+            return Err(Refusal::OutOfRange);
+        };
         refuse_if(!self.packet.fpkt, Refusal::TooFew)?;
-        Ok(self.shows(self.packet.bytes[index as usize] as u16))
+        Ok(self.shows(u16::from(byte)))
     }
 
     pub fn reset() -> Accepted

@@ -49,7 +49,7 @@ impl Controller {
         weight(self.acctl.atten, 0x80)
             + weight(self.acctl.acmen, 0x40)
             + weight(self.acctl.tcincen, 0x20)
-            + self.acctl.atlim as u16
+            + u16::from(self.acctl.atlim)
     }
 
     #[tactic(auto, unfolding(crate::specs::Read::read))]
@@ -57,16 +57,16 @@ impl Controller {
         ensures { step_of self result ≡ read self reg ring }
     {
         let value = match reg {
-            0x12 => self.mbc as u16,
+            0x12 => u16::from(self.mbc),
             0x18 => self.asctrl_byte(),
             0x24 => ring.t,
             0x25 => 0,
             0x30 => self.miss2_byte(),
-            0x31 => self.task.aterr as u16,
-            0x32 => self.task.atint as u16,
-            0x34 => self.task.atblo as u16,
-            0x35 => self.task.atbhi as u16,
-            0x37 => self.task.atcmd as u16,
+            0x31 => u16::from(self.task.aterr),
+            0x32 => u16::from(self.task.atint),
+            0x34 => u16::from(self.task.atblo),
+            0x35 => u16::from(self.task.atbhi),
+            0x37 => u16::from(self.task.atcmd),
             0x38 => self.atsta_byte(),
             0x3A => ring.last,
             0x3B => 0,

@@ -3,7 +3,7 @@ ghost use Rattle.std.specs.Prelude.{◌≡◌, ◌+◌, ◌*◌, ◌<◌, ◌≤
 ghost use Rattle.controller.specs.Step.{accepted, step_of};
 ghost use Rattle.controller.specs.Transfer.{engaged, start_switches, limit, most_blocks, blocks_asked, start_blocks, byte_count, begun, start, settled, concluded, completed, signed};
 
-use crate::state::Controller;
+use crate::state::{Atsta, Controller, Task, Transfer};
 use crate::step::Accepted;
 use reply::{Refusal, refuse_if};
 
@@ -13,10 +13,10 @@ fn within_words(asked: u16, words: u16) -> u16
     requires { 0 < words }
     ensures { result ≡ min asked (most_blocks words) }
 {
-    let one = words as u32;
+    let one = u32::from(words);
     let mut blocks = asked;
-    let mut total = asked as u32 * one;
-    while 32767 < total {
+    let mut total = u32::from(asked) * one;
+    while total > 32767 {
         total -= one;
         blocks -= 1;
     }
@@ -27,13 +27,13 @@ impl Controller {
     pub fn engaged(self) -> bool
         ensures { result ≡ engaged self }
     {
-        self.transfer.running | self.packet.receiving
+        self.transfer.running || self.packet.receiving
     }
 
     fn start_switches(self) -> bool
         ensures { result ≡ start_switches self }
     {
-        self.acctl.acmen & self.asctrl.adcen & (self.window.words != 0) & self.atsta.bsy
+        self.acctl.acmen && self.asctrl.adcen && self.window.words != 0 && self.atsta.bsy
     }
 
     fn limit(self) -> u16
@@ -41,7 +41,7 @@ impl Controller {
     {
         match self.acctl.atlim {
             0 => 32,
-            atlim => atlim as u16,
+            atlim => u16::from(atlim),
         }
     }
 
@@ -49,9 +49,9 @@ impl Controller {
         ensures { (result ≡ blocks_asked self) × (result ≤ 256) }
     {
         if self.counts.ttc == 0 {
-            self.mbc as u16 + 1
+            u16::from(self.mbc) + 1
         } else {
-            self.limit().min(self.counts.tcc.min(self.counts.ttc))
+            self.limit().min(self.counts.tcc).min(self.counts.ttc)
         }
     }
 
@@ -70,8 +70,13 @@ impl Controller {
         ensures { result ≡ byte_count self }
     {
         if self.asctrl.stwcen {
-            let bytes = (self.mbc as u16 + 1) * self.window.words * 2;
-            [self.task.atblo, self.task.atbhi] = bytes.to_le_bytes();
+            let bytes = (u16::from(self.mbc) + 1) * self.window.words * 2;
+            let [atblo, atbhi] = bytes.to_le_bytes();
+            self.task = Task {
+                atblo,
+                atbhi,
+                ..self.task
+            };
         }
         self
     }
@@ -83,20 +88,22 @@ impl Controller {
         self.atsta.drq = true;
         self.atsta.bsy = false;
         self.hirq = true;
-        self.transfer.running = true;
-        self.transfer.left = self.mbc as u16 + 1;
-        self.transfer.position = 0;
+        self.transfer = Transfer {
+            running: true,
+            left: u16::from(self.mbc) + 1,
+            position: 0,
+        };
         self
     }
 
     // ASTRG (17h) 04h, where it is not barred.
-    #[tactic(auto, unfolding(crate::specs::Transfer::start))]
+    #[tactic(auto, using(crate::proofs::Starts::windowed, crate::proofs::Starts::fits), unfolding(crate::specs::Transfer::start))]
     pub fn start(mut self) -> Result<Accepted, Refusal>
         ensures { step_of self result ≡ start self }
     {
         refuse_if(!self.start_switches(), Refusal::Unready)?;
         let blocks = self.start_blocks();
-        refuse_if((blocks == 0) | (self.counts.tcc < blocks), Refusal::TooFew)?;
+        refuse_if(blocks == 0 || self.counts.tcc < blocks, Refusal::TooFew)?;
         self.mbc = (blocks - 1) as u8;
         Ok(self.byte_count().begun().done())
     }
@@ -106,24 +113,29 @@ impl Controller {
     fn settle(self) -> Controller
         ensures { result ≡ settled self }
     {
-        if self.acctl.atten & (self.counts.ttc != 0) & !self.engaged() {
-            if let Ok(started) = self.start() {
-                return started.controller;
-            }
+        if self.acctl.atten
+            && self.counts.ttc != 0
+            && !self.engaged()
+            && let Ok(started) = self.start()
+        {
+            started.controller
+        } else {
+            self
         }
-        self
     }
 
     // Status completion, by ASTRG (17h) 01h or as an end step.
     pub fn complete(mut self) -> Controller
         ensures { result ≡ completed self }
     {
-        self.atsta.check = self.ascsta.check;
-        self.atsta.corr = self.ascsta.corr;
-        self.atsta.drdy = self.ascsta.drdy;
-        self.atsta.drq = false;
+        self.atsta = Atsta {
+            drdy: self.ascsta.drdy,
+            dsc: self.atsta.dsc,
+            corr: self.ascsta.corr,
+            check: self.ascsta.check,
+            ..Atsta::default()
+        };
         self.task.atint = 3;
-        self.atsta.bsy = false;
         self.hirq = true;
         self.asctrl.apkten |= self.asctrl.autoen;
         self.asctrl.ascen = false;
@@ -136,10 +148,11 @@ impl Controller {
     {
         self.task.atblo = 0x14;
         self.task.atbhi = 0xEB;
-        self.atsta.drdy = false;
-        self.atsta.drq = false;
-        self.atsta.corr = false;
-        self.atsta.check = false;
+        self.atsta = Atsta {
+            bsy: self.atsta.bsy,
+            dsc: self.atsta.dsc,
+            ..Atsta::default()
+        };
         self
     }
 }

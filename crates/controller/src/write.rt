@@ -1,11 +1,12 @@
-// Writing registers, one function for each: its guards stand in the order of the reply numbers, as in its definition.
-ghost use Rattle.std.specs.Prelude.{◌≡◌, ◌<◌, ◌≤◌, Ok, Err, All, ltb, if◌then◌else◌};
+// Writing registers: the guards of each stand in the order of the reply numbers, as in its definition.
+ghost use Rattle.std.specs.Prelude.{◌≡◌, ◌<◌, ◌≤◌, Ok, Err, All, ltb, if◌then◌else◌, ◌&&◌, ◌||◌, not, [], ◌∷◌};
 ghost use Rattle.reply.specs.declared.Refusal.TheVariants.{OutOfRange};
 ghost use Rattle.controller.specs.Bits.{bit, only};
-ghost use Rattle.controller.specs.Step.{accepted, step_of};
-ghost use Rattle.controller.specs.Write.{write_tack, decoder_off, write_ctrl0, write_mbtc0, write_astrg, asctrl_of, write_asctrl, with_task, write_task, write_atsta, write_apksta, write_ascsta, write_bicctl, write_buflim, acctl_of, write_acctl, write_tcc, write_skipc, write_ttc, write};
+ghost use Rattle.controller.specs.Fields.{◌▹◌, task≔};
+ghost use Rattle.controller.specs.Step.{accepted, done, step_of};
+ghost use Rattle.controller.specs.Write.{write_tack, decoder_off, write_ctrl0, write_mbtc0, write_astrg, asctrl_of, write_asctrl, write_atsta, write_apksta, write_ascsta, write_bicctl, write_buflim, acctl_of, write_acctl, write_tcc, write_skipc, write_ttc, write};
 
-use crate::state::{Acctl, Ascsta, Asctrl, Controller, Task};
+use crate::state::{Acctl, Ascsta, Asctrl, Atsta, Controller, Task};
 use crate::step::{Accepted, Event};
 use reply::{Refusal, refuse_if};
 
@@ -30,11 +31,12 @@ fn only<const N: usize>(bits: [u16; N], value: u16) -> bool
     requires within { All (λ k. k < 16) bits }
     ensures { result ≡ only bits.entry value }
 {
-    let mut kept: u32 = 0;
+    let value = u32::from(value);
+    let mut kept = 0;
     for k in bits {
-        kept += ((value as u32 >> k) & 1) << k;
+        kept += ((value >> k) & 1) << k;
     }
-    kept == value as u32
+    kept == value
 }
 
 impl Controller {
@@ -60,16 +62,15 @@ impl Controller {
     fn write_ctrl0(mut self, value: u16) -> Result<Accepted, Refusal>
         ensures { step_of self result ≡ write_ctrl0 self value }
     {
-        if value == 0 {
-            return Ok(self.decoder_off());
+        match value {
+            0x00 => Ok(self.decoder_off()),
+            0x80 if self.buffering.blimen && self.acctl.tcincen => {
+                self.buffering.decen = true;
+                Ok(self.done())
+            }
+            0x80 => Err(Refusal::Unready),
+            _ => Err(Refusal::OutOfRange),
         }
-        refuse_if(value != 0x80, Refusal::OutOfRange)?;
-        refuse_if(
-            !(self.buffering.blimen & self.acctl.tcincen),
-            Refusal::Unready,
-        )?;
-        self.buffering.decen = true;
-        Ok(self.done())
     }
 
     #[tactic(auto, unfolding(crate::specs::Write::write_mbtc0))]
@@ -86,12 +87,12 @@ impl Controller {
     fn write_astrg(self, value: u16) -> Result<Accepted, Refusal>
         ensures { step_of self result ≡ write_astrg self value }
     {
-        refuse_if(!matches!(value, 0x01 | 0x04 | 0x10), Refusal::OutOfRange)?;
-        refuse_if(self.engaged(), Refusal::Barred)?;
         match value {
+            0x01 | 0x04 | 0x10 if self.engaged() => Err(Refusal::Barred),
             0x01 => Ok(self.complete().done()),
             0x04 => self.start(),
-            _ => Ok(self.signed().done()),
+            0x10 => Ok(self.signed().done()),
+            _ => Err(Refusal::OutOfRange),
         }
     }
 
@@ -99,23 +100,18 @@ impl Controller {
     fn write_asctrl(mut self, value: u16) -> Result<Accepted, Refusal>
         ensures { step_of self result ≡ write_asctrl self value }
     {
-        let asctrl = Asctrl::of(value);
-        let is_named = only([7, 6, 5, 4, 3, 0], value);
-        refuse_if(
-            !(is_named & (asctrl.adcen | !asctrl.ascen)),
-            Refusal::OutOfRange,
-        )?;
+        let asctrl = Asctrl::try_from(value)?;
         refuse_if(self.engaged(), Refusal::Barred)?;
         self.asctrl = asctrl;
         Ok(self.done())
     }
 
-    #[tactic(auto, unfolding(crate::specs::Write::write_task))]
-    fn write_task(mut self, reg: u16, value: u16) -> Result<Accepted, Refusal>
-        ensures { step_of self result ≡ write_task self reg value }
+    // ATERR (31h), ATINT (32h), ATBLO (34h) and ATBHI (35h) have no guard but their eight bits.
+    fn with_task(mut self, task: Task) -> Accepted
+        ensures { accepted result ≡ done (self ▹ task≔ task) }
     {
-        self.task = self.task.with(reg, byte(value)?);
-        Ok(self.done())
+        self.task = task;
+        self.done()
     }
 
     #[tactic(auto, unfolding(crate::specs::Write::write_atsta))]
@@ -124,11 +120,14 @@ impl Controller {
     {
         refuse_if(!only([7, 6, 4, 2, 0], value), Refusal::OutOfRange)?;
         refuse_if(self.engaged(), Refusal::Barred)?;
-        self.atsta.drdy = bit(value, 6);
-        self.atsta.dsc = bit(value, 4);
-        self.atsta.corr = bit(value, 2);
-        self.atsta.check = bit(value, 0);
-        self.atsta.drq = false;
+        self.atsta = Atsta {
+            bsy: self.atsta.bsy,
+            drdy: bit(value, 6),
+            dsc: bit(value, 4),
+            drq: false,
+            corr: bit(value, 2),
+            check: bit(value, 0),
+        };
         Ok(self.done())
     }
 
@@ -145,12 +144,7 @@ impl Controller {
     fn write_ascsta(mut self, value: u16) -> Result<Accepted, Refusal>
         ensures { step_of self result ≡ write_ascsta self value }
     {
-        refuse_if(!only([6, 2, 0], value), Refusal::OutOfRange)?;
-        self.ascsta = Ascsta {
-            drdy: bit(value, 6),
-            corr: bit(value, 2),
-            check: bit(value, 0),
-        };
+        self.ascsta = Ascsta::try_from(value)?;
         Ok(self.done())
     }
 
@@ -170,26 +164,24 @@ impl Controller {
         ensures { step_of self result ≡ write_buflim self value n }
     {
         // Wider than a value, so that the sum never wraps.
-        refuse_if((n as u32) < value as u32 + 2, Refusal::OutOfRange)?;
+        refuse_if(u32::from(value) + 2 > u32::from(n), Refusal::OutOfRange)?;
         refuse_if(self.buffering.decen, Refusal::Unready)?;
         self.buffering.buflim = value;
         Ok(self.done())
     }
 
-    #[tactic(auto, unfolding(crate::specs::Write::write_acctl))]
+    #[tactic(auto, using(crate::proofs::Bits::differs_by_beq), unfolding(crate::specs::Write::write_acctl))]
     fn write_acctl(mut self, value: u16) -> Result<Accepted, Refusal>
         ensures { step_of self result ≡ write_acctl self value }
     {
-        refuse_if(value > 255, Refusal::OutOfRange)?;
+        let acctl = Acctl::try_from(value)?;
         refuse_if(self.transfer.running, Refusal::Barred)?;
-        let acctl = Acctl::of(value);
         let changed = acctl.tcincen != self.acctl.tcincen;
-        refuse_if(self.buffering.decen & changed, Refusal::Unready)?;
+        refuse_if(self.buffering.decen && changed, Refusal::Unready)?;
         self.acctl = acctl;
-        if acctl.acmen {
-            return Ok(self.done());
+        if !acctl.acmen {
+            self.counts.ttc = 0;
         }
-        self.counts.ttc = 0;
         Ok(self.done())
     }
 
@@ -234,7 +226,7 @@ impl Controller {
     }
 
     // n is the number of blocks.
-    #[tactic(auto, unfolding(crate::specs::Write::write))]
+    #[tactic(auto, unfolding(crate::specs::Write::write, crate::specs::Write::write_task))]
     pub fn write(self, reg: u16, value: u16, n: u16) -> Result<Accepted, Refusal>
         ensures { step_of self result ≡ write self reg value n }
     {
@@ -244,7 +236,22 @@ impl Controller {
             0x12 => self.write_mbtc0(value),
             0x17 => self.write_astrg(value),
             0x18 => self.write_asctrl(value),
-            0x31 | 0x32 | 0x34 | 0x35 => self.write_task(reg, value),
+            0x31 => Ok(self.with_task(Task {
+                aterr: byte(value)?,
+                ..self.task
+            })),
+            0x32 => Ok(self.with_task(Task {
+                atint: byte(value)?,
+                ..self.task
+            })),
+            0x34 => Ok(self.with_task(Task {
+                atblo: byte(value)?,
+                ..self.task
+            })),
+            0x35 => Ok(self.with_task(Task {
+                atbhi: byte(value)?,
+                ..self.task
+            })),
             0x37 => self.write_atsta(value),
             0x3D => self.write_apksta(value),
             0x3E => self.write_ascsta(value),
@@ -259,45 +266,56 @@ impl Controller {
     }
 }
 
-impl Asctrl {
-    fn of(value: u16) -> Asctrl
-        ensures { result ≡ asctrl_of value }
-    {
-        Asctrl {
+// Ruled out: one that lets ASCEN be set without ADCEN, and one that takes a value with bit 1.
+impl TryFrom<u16> for Asctrl {
+    type Error = Refusal;
+
+    ghost try_from_gives = { λ value r. r ≡ (if only (7 ∷ 6 ∷ 5 ∷ 4 ∷ 3 ∷ 0 ∷ []) value && (bit value 6 || not (bit value 5)) then Ok (asctrl_of value) else Err OutOfRange) };
+
+    fn try_from(value: u16) -> Result<Asctrl, Refusal> {
+        refuse_if(!only([7, 6, 5, 4, 3, 0], value), Refusal::OutOfRange)?;
+        let asctrl = Asctrl {
             apkten: bit(value, 7),
             adcen: bit(value, 6),
             ascen: bit(value, 5),
             autoen: bit(value, 4),
             stwcen: bit(value, 3),
             a0ien: bit(value, 0),
-        }
+        };
+        refuse_if(asctrl.ascen && !asctrl.adcen, Refusal::OutOfRange)?;
+        Ok(asctrl)
     }
 }
 
-impl Acctl {
-    fn of(value: u16) -> Acctl
-        ensures { result ≡ acctl_of value }
-    {
-        Acctl {
+// Ruled out: one that takes a value with bit 4, which is not named, and one that reads CHECK at bit 1.
+impl TryFrom<u16> for Ascsta {
+    type Error = Refusal;
+
+    ghost try_from_gives = { λ value r. r ≡ (if only (6 ∷ 2 ∷ 0 ∷ []) value then Ok (record { drdy = bit value 6; corr = bit value 2; check = bit value 0 }) else Err OutOfRange) };
+
+    fn try_from(value: u16) -> Result<Ascsta, Refusal> {
+        refuse_if(!only([6, 2, 0], value), Refusal::OutOfRange)?;
+        Ok(Ascsta {
+            drdy: bit(value, 6),
+            corr: bit(value, 2),
+            check: bit(value, 0),
+        })
+    }
+}
+
+// Ruled out: one that reads ATLIM of four bits, and one that takes a value above 255.
+impl TryFrom<u16> for Acctl {
+    type Error = Refusal;
+
+    ghost try_from_gives = { λ value r. r ≡ (if ltb 255 value then Err OutOfRange else Ok (acctl_of value)) };
+
+    fn try_from(value: u16) -> Result<Acctl, Refusal> {
+        let atlim = byte(value)? % 32;
+        Ok(Acctl {
             atten: bit(value, 7),
             acmen: bit(value, 6),
             tcincen: bit(value, 5),
-            atlim: (value % 32) as u8,
-        }
-    }
-}
-
-impl Task {
-    // One of the four registers; ATBHI (35h) where it is none of the others.
-    fn with(mut self, reg: u16, byte: u8) -> Task
-        ensures { result ≡ with_task self reg byte }
-    {
-        match reg {
-            0x31 => self.aterr = byte,
-            0x32 => self.atint = byte,
-            0x34 => self.atblo = byte,
-            _ => self.atbhi = byte,
-        }
-        self
+            atlim,
+        })
     }
 }

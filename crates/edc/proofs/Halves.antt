@@ -20,12 +20,10 @@ cut n k x =
     ∙ ap (λ (y : ℕ). bit_xor y (shifts n (x / 2 ^ k))) (sym (shifts_add k n (x % 2 ^ k)))
 
 -- two words to one, at the scale 2: the low half of the first goes to its high half and to the second, and then the high half
-pub two : (a b low h : ℕ) → low ≡ a % 2 ^ 32 → h ≡ halved a → h < 2 ^ 32
-    → shifts 64 (bit_xor (bit_xor (bit_xor (bit_xor (bit_xor b (low / 2 ^ 8)) (low / 2 ^ 2)) h) (h * 2 ^ 24 % 2 ^ 64)) (h * 2 ^ 30 % 2 ^ 64)) ≡ shifts 64 (bit_xor (shifts 64 a) b)
-two a b low h el e hh =
-    ap (λ (x : ℕ). shifts 64 (bit_xor (bit_xor (bit_xor (bit_xor (bit_xor b (x / 2 ^ 8)) (x / 2 ^ 2)) h) (h * 2 ^ 24 % 2 ^ 64)) (h * 2 ^ 30 % 2 ^ 64))) el
-    ∙ ap₂ (λ (x y : ℕ). shifts 64 (bit_xor (bit_xor (bit_xor (bit_xor (bit_xor b (l / 2 ^ 8)) (l / 2 ^ 2)) h) x) y)) up_24 up_30
-    ∙ shifts_sum b (l / 2 ^ 8) (l / 2 ^ 2) h (h * 2 ^ 24) (h * 2 ^ 30)
+pub two : (a b h : ℕ) → h ≡ halved a → h < 2 ^ 32
+    → shifts 64 (bit_xor (bit_xor (bit_xor (bit_xor (bit_xor b (a % 2 ^ 32 / 2 ^ 8)) (a % 2 ^ 32 / 2 ^ 2)) h) (h * 2 ^ 24)) (h * 2 ^ 30)) ≡ shifts 64 (bit_xor (shifts 64 a) b)
+two a b h e hh =
+    shifts_sum b (l / 2 ^ 8) (l / 2 ^ 2) h (h * 2 ^ 24) (h * 2 ^ 30)
     ∙ ap₂ (λ (x y : ℕ). bit_xor (bit_xor (bit_xor (bit_xor (bit_xor (shifts 64 b) (shifts 64 (l / 2 ^ 8))) (shifts 64 (l / 2 ^ 2))) (shifts 64 h)) x) y)
     (up 40 24 64 h refl) (up 34 30 64 h refl)
     ∙ sums (shifts 64 b ∷ shifts 64 (l / 2 ^ 8) ∷ shifts 64 (l / 2 ^ 2) ∷ shifts 64 h ∷ shifts 40 h ∷ shifts 34 h ∷ []) (op 0 ⊕ op 1 ⊕ op 2 ⊕ op 3 ⊕ op 4 ⊕ op 5)
@@ -43,12 +41,6 @@ two a b low h el e hh =
 
     hl : a % 2 ^ 32 < 2 ^ 32
     hl = mod-lt a (pow_pos 32)
-
-    up_24 : h * 2 ^ 24 % 2 ^ 64 ≡ h * 2 ^ 24
-    up_24 = omega arith
-
-    up_30 : h * 2 ^ 30 % 2 ^ 64 ≡ h * 2 ^ 30
-    up_30 = omega arith
 
     n₁ : 31 * 2 ≤ 96
     n₁ = omega arith
@@ -68,6 +60,20 @@ two a b low h el e hh =
         ∙ ap₂ bit_xor
         (shifts_xor 96 (bit_xor (a / 2 ^ 32) l) (l % 2 ^ 8 * 2 ^ 24) ∙ ap₂ bit_xor (shifts_xor 96 (a / 2 ^ 32) l) (up 72 24 96 (l % 2 ^ 8) refl))
         (up 66 30 96 (l % 2 ^ 2) refl)
+
+-- the same with shifts of words, which cut at 64 bits: no bit of the half is lost
+pub two_shifted : (a b low h : ℕ) → low ≡ a % 2 ^ 32 → h ≡ halved a → h < 2 ^ 32
+    → shifts 64 (bit_xor (bit_xor (bit_xor (bit_xor (bit_xor b (low / 2 ^ 8)) (low / 2 ^ 2)) h) (h * 2 ^ 24 % 2 ^ 64)) (h * 2 ^ 30 % 2 ^ 64)) ≡ shifts 64 (bit_xor (shifts 64 a) b)
+two_shifted a b low h el e hh =
+    ap (λ (x : ℕ). shifts 64 (bit_xor (bit_xor (bit_xor (bit_xor (bit_xor b (x / 2 ^ 8)) (x / 2 ^ 2)) h) (h * 2 ^ 24 % 2 ^ 64)) (h * 2 ^ 30 % 2 ^ 64))) el
+    ∙ ap₂ (λ (x y : ℕ). shifts 64 (bit_xor (bit_xor (bit_xor (bit_xor (bit_xor b (a % 2 ^ 32 / 2 ^ 8)) (a % 2 ^ 32 / 2 ^ 2)) h) x) y)) up_24 up_30
+    ∙ two a b h e hh
+  where
+    up_24 : h * 2 ^ 24 % 2 ^ 64 ≡ h * 2 ^ 24
+    up_24 = omega arith
+
+    up_30 : h * 2 ^ 30 % 2 ^ 64 ≡ h * 2 ^ 30
+    up_30 = omega arith
 
 -- a word's register: only its high half is left to be moved on
 pub half_left : (x : ℕ) → shifts 64 x ≡ bit_xor (bit_xor (shifts 32 (halved x)) (x % 2 ^ 32 / 2 ^ 8)) (x % 2 ^ 32 / 2 ^ 2)

@@ -1,6 +1,4 @@
--- The laws of `edc` for callers: a run from what is left of it, the code's width, and its linearity in the register.
--- That a slice holds bytes, `Bytes`, is shown by what the borrow checker knows of its elements,
--- `λ i. (c.shared-slice-known.given i).fits`. Assumes nothing.
+-- The laws of `edc` for callers: a run from what is left of it, the code's width, and its linearity in the register. Assumes nothing.
 use mathlib.Core.Path.{◌≡◌, refl, sym, ap, ◌∙◌}
 use mathlib.Core.List.{List, [], ◌∷◌, ◌++◌}
 use Prim.Native.Nat.{ℕ, zero, suc, ◌+◌, ◌*◌, ◌/◌, ◌%◌, ◌^◌, ◌<◌, ◌≤◌}

@@ -34,7 +34,7 @@ more n r x b hx hb =
     e = omega (arith, mul_comm b (2 ^ n))
 
 -- four bytes as a word
-fed_four : (r a b c d : ℕ) → a < 256 → b < 256 → c < 256 → d < 256
+pub fed_four : (r a b c d : ℕ) → a < 256 → b < 256 → c < 256 → d < 256
     → fed 8 (fed 8 (fed 8 (fed 8 r a) b) c) d ≡ shifts 32 (bit_xor r (a + 256 * b + 65536 * c + 16777216 * d))
 fed_four r a b c d ha hb hc hd =
     ap (λ (x : ℕ). fed 8 x d)
@@ -42,7 +42,7 @@ fed_four r a b c d ha hb hc hd =
     ∙ more 16 r (a + 256 * b) c (omega arith) hc)
     ∙ more 24 r (a + 256 * b + 65536 * c) d (omega arith) hd
 
-fed_eight : (r a b c d e f g h : ℕ) → a < 256 → b < 256 → c < 256 → d < 256 → e < 256 → f < 256 → g < 256 → h < 256
+pub fed_eight : (r a b c d e f g h : ℕ) → a < 256 → b < 256 → c < 256 → d < 256 → e < 256 → f < 256 → g < 256 → h < 256
     → fed 8 (fed 8 (fed 8 (fed 8 (fed 8 (fed 8 (fed 8 (fed 8 r a) b) c) d) e) f) g) h
     ≡ shifts 64 (bit_xor r (a + 256 * b + 65536 * c + 16777216 * d + 4294967296 * e + 1099511627776 * f + 281474976710656 * g + 72057594037927936 * h))
 fed_eight r a b c d e f g h ha hb hc hd he hf hg hh =
@@ -82,7 +82,7 @@ pub edc_parts : (r n : ℕ) (s : List ℕ) → edc (edc r (take n s)) (drop n s)
 edc_parts r n s = sym (edc_append r (take n s) (drop n s)) ∙ ap (edc r) (take-append-drop n s)
 
 -- eight bytes of a list, from i on
-edc_eight : (s : List ℕ) (r i : ℕ) → i + 8 ≤ length s
+pub edc_eight : (s : List ℕ) (r i : ℕ) → i + 8 ≤ length s
     → edc (fed 8 (fed 8 (fed 8 (fed 8 (fed 8 (fed 8 (fed 8 (fed 8 r (get_or s i 0)) (get_or s (i + 1) 0)) (get_or s (i + 2) 0)) (get_or s (i + 3) 0)) (get_or s (i + 4) 0)) (get_or s (i + 5) 0)) (get_or s (i + 6) 0)) (get_or s (i + 7) 0)) (drop (i + 8) s)
     ≡ edc r (drop i s)
 edc_eight s r i h =
@@ -149,12 +149,17 @@ edc_zeros (suc m) (suc n) =
     let z : 0 < 256 = omega arith in
     ap (λ (x : ℕ). edc x (take m (replicate n 0))) (fed_xor 8 0 0 z ∙ shifts_empty 8) ∙ edc_zeros m n
 
--- one more byte of s behind the zeros, xored into the next of them
-pub pad_next : (s b : List ℕ) (i m : ℕ) → i < length s → m < length b → get_or b m 0 ≡ 0
-    → edc (edc 0 (take (m + 1) (set b m (bit_xor (get_or b m 0) (get_or s i 0))))) (drop (i + 1) s) ≡ edc (edc 0 (take m b)) (drop i s)
+-- one more byte of s behind the zeros
+pub pad_next : (s b : List ℕ) (i m : ℕ) → i < length s → m < length b
+    → edc (edc 0 (take (m + 1) (set b m (get_or s i 0)))) (drop (i + 1) s) ≡ edc (edc 0 (take m b)) (drop i s)
 unfolding edc
-pad_next s b i m hi hm z =
-    ap (λ (x : ℕ). edc (edc 0 (take (m + 1) (set b m (bit_xor x (get_or s i 0))))) (drop (i + 1) s)) z
-    ∙ ap (λ (l : List ℕ). edc (edc 0 l) (drop (i + 1) s)) (ap (λ (n : ℕ). take n (set b m (get_or s i 0))) (add-one m) ∙ take-suc-set b m (get_or s i 0) hm)
+pad_next s b i m hi hm =
+    ap (λ (l : List ℕ). edc (edc 0 l) (drop (i + 1) s)) (ap (λ (n : ℕ). take n (set b m (get_or s i 0))) (add-one m) ∙ take-suc-set b m (get_or s i 0) hm)
     ∙ ap (λ (x : ℕ). edc x (drop (i + 1) s)) (edc_append 0 (take m b) (get_or s i 0 ∷ []))
     ∙ sym (edc_drop s (edc 0 (take m b)) i hi)
+
+-- the same, xored into the next of the zeros
+pub pad_xored : (s b : List ℕ) (i m : ℕ) → i < length s → m < length b → get_or b m 0 ≡ 0
+    → edc (edc 0 (take (m + 1) (set b m (bit_xor (get_or b m 0) (get_or s i 0))))) (drop (i + 1) s) ≡ edc (edc 0 (take m b)) (drop i s)
+pad_xored s b i m hi hm z =
+    ap (λ (x : ℕ). edc (edc 0 (take (m + 1) (set b m (bit_xor x (get_or s i 0))))) (drop (i + 1) s)) z ∙ pad_next s b i m hi hm

@@ -5,12 +5,11 @@ use mathlib.Core.List.{List, [], ◌∷◌}
 use Prim.Native.Nat.{ℕ, suc, ◌+◌, ◌-◌, ◌*◌, ◌%◌, ◌^◌, ◌<◌, ◌≤◌}
 use native.Mathlib.Nat.{lt_of_lt_of_le}
 use native.Mathlib.Omega.{arith}
-use lib.ListN.{length, get_or, set, replicate}
+use lib.ListN.{length, get_or, set}
 use lib.Seq.{get_or-set_same, get_or-set_other}
 use lib.Pow.{pow_mono}
 use lib.Bits.{bit_xor, xor_zero_r}
 use Rattle.laws.proofs.Sum.{sums, op, ◌⊕◌}
-use Rattle.laws.proofs.Fill.{zeros}
 use Rattle.edc.specs.Fold.{shifts, scale, code, along, round, left, held}
 use Rattle.edc.proofs.Shifts.{shifts_xor, shifts_add, shifts_empty, shifts_width}
 use Rattle.edc.proofs.Folds.{folds_of}
@@ -87,11 +86,11 @@ ring_next x j u q m₁ m₂ m₃ e b n l e₁ e₂ e₃ =
 pub held_round : (x : List ℕ) → held x 32 ≡ held x 0
 held_round x = left_same (round x 33) (round x 1) (λ k h. let e : (33 + k) % 32 ≡ (1 + k) % 32 = omega arith in ap (λ (m : ℕ). get_or x m 0) e)
 
-pub held_empty : held (replicate 32 0) 0 ≡ 0
-held_empty = ap₂ bit_xor (ap₂ bit_xor (none 31) (none 15)) (none 3)
+pub held_empty : (x : List ℕ) → ((i d : ℕ) → i < 32 → get_or x i d ≡ 0) → held x 0 ≡ 0
+held_empty x z = ap₂ bit_xor (ap₂ bit_xor (none 31) (none 15)) (none 3)
   where
-    none : (n : ℕ) → code (round (replicate 32 0) 1) n ≡ 0
-    none n = code_zeros (round (replicate 32 0) 1) n (λ k. zeros 32 ((1 + k) % 32))
+    none : (n : ℕ) → code (round x 1) n ≡ 0
+    none n = code_zeros (round x 1) n (λ k. z ((1 + k) % 32) 0 (omega arith))
 
 -- the words from place 1 on, when each up to i has the one `back` before it xored in
 abbrev pub Back : ℕ → List ℕ → List ℕ → ℕ → Type 0

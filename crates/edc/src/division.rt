@@ -4,10 +4,10 @@ ghost use Rattle.std.specs.Prelude.{◌≡◌, ◌+◌, ◌*◌, ◌≤◌, drop
 ghost use Rattle.edc.specs.Edc.{edc};
 ghost use Rattle.edc.specs.Fold.{held, Reach};
 
-use super::words::word;
+use crate::words::word;
 
 // The quotient's last 32 words.
-#[derive(Drop)]
+#[derive(Default, Drop)]
 pub struct Ring {
     pub words: [u64; 32],
 }

@@ -3,8 +3,8 @@ ghost use Rattle.std.specs.Prelude.{◌≡◌, true, ℕ, ◌+◌, ◌-◌, ◌*
 ghost use Rattle.std.specs.Int.Bits.{bit_xor};
 ghost use Rattle.edc.specs.Fold.{shifts, scale, code, along, held};
 
-use super::division::Ring;
-use super::register::join_two;
+use crate::division::Ring;
+use crate::register::join_two;
 
 impl Ring {
     // Xors into each word the one that stands `back` places before it.

@@ -21,10 +21,10 @@ use division::Ring;
 pub fn edc(bytes: &[u8]) -> u32
     ensures { result ≡ edc 0 bytes.now }
 {
-    let (over, runs): (&[u8], &[[u8; 256]]) = bytes.as_rchunks();
-    let mut first: [u8; 256] = [0; 256];
+    let (over, runs) = bytes.as_rchunks::<256>();
+    let mut first = [0; 256];
     words::pad(&mut first, over);
-    let mut ring = Ring { words: [0; 32] };
+    let mut ring = Ring::default();
     ring.turn(&first);
     for run in runs {
         ring.turn(run);

@@ -20,7 +20,7 @@ fn halve(a: u64) -> u32
 
 // Two words folded to one by the scale 2, the low half of the first word first.
 // Ruled out: one that takes the second word first, and one that drops the low half.
-#[tactic(auto, using(crate::proofs::Halves::two))]
+#[tactic(auto, using(crate::proofs::Halves::two_shifted))]
 pub fn join_two(a: u64, b: u64) -> u64
     ensures { shifts 64 result ≡ shifts 64 (bit_xor (shifts 64 a) b) }
 {

@@ -11,7 +11,7 @@ pub fn word(run: &[u8; 256], i: usize) -> u64
     requires { i < 32 }
     ensures { (r : ℕ) → edc (shifts 64 (bit_xor r result)) (drop (8 * i + 8) run.now) ≡ edc r (drop (8 * i) run.now) }
 {
-    let (words, _): (&[[u8; 8]], &[u8]) = run.as_chunks();
+    let (words, _) = run.as_chunks::<8>();
     u64::from_le_bytes(words[i])
 }
 

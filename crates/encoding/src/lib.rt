@@ -2,7 +2,7 @@
 // stands, a switch from its bit, and what soundness asks is left to the chip.
 #![tactic(auto)]
 
-mod pairs;
+mod bits;
 mod read;
 mod write;
 

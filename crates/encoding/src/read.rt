@@ -137,6 +137,7 @@ fn transfer(words: &[u16; 28]) -> Transfer
     }
 }
 
+#[tactic(auto, using(crate::proofs::Packet::all_bytes))]
 fn packet(words: &[u16; 28]) -> Packet
     ensures { result ≡ (controller_in words.now).packet }
 {

@@ -5,7 +5,7 @@ ghost use Rattle.sector.specs.Judge.{why};
 ghost use Rattle.chip.specs.Chip.{at_position};
 ghost use Rattle.encoding.specs.Words.{word, decoded, encoded, first_switches, second_switches, packet_pairs, Ranged};
 
-use crate::pairs::{pair, switches};
+use crate::bits::switches;
 use chip::Chip;
 use controller::Controller;
 
@@ -64,11 +64,7 @@ fn why_byte(c: Controller) -> u8
 fn packet_words(bytes: [u8; 12]) -> [u16; 6]
     ensures { result ≡ packet_pairs bytes }
 {
-    let mut words = [0; 6];
-    for (i, word) in words.iter_mut().enumerate() {
-        *word = pair(bytes[2 * i], bytes[2 * i + 1]);
-    }
-    words
+    std::array::from_fn(|i| u16::from_le_bytes([bytes[2 * i], bytes[2 * i + 1]]))
 }
 
 // All words, in their order; with them what the types say of the record.
@@ -98,10 +94,10 @@ fn laid(chip: Chip) -> [u16; 28]
         c.transfer.left,
         c.transfer.position,
         c.packet.received,
-        pair(c.acctl.atlim, c.mbc),
-        pair(c.task.aterr, c.task.atint),
-        pair(c.task.atblo, c.task.atbhi),
-        pair(c.task.atcmd, why_byte(c)),
+        u16::from_le_bytes([c.acctl.atlim, c.mbc]),
+        u16::from_le_bytes([c.task.aterr, c.task.atint]),
+        u16::from_le_bytes([c.task.atblo, c.task.atbhi]),
+        u16::from_le_bytes([c.task.atcmd, why_byte(c)]),
         first_switches(c),
         second_switches(c),
         packet0,

@@ -40,7 +40,8 @@ pub(crate) fn packed_address(address: Address) -> u32
     requires { valid address ≡ true }
     ensures { result ≡ packed 0 (address_number address) }
 {
-    256 * (address.frame as u32 + 256 * (address.second as u32 + 256 * (address.minute as u32)))
+    256 * (u32::from(address.frame)
+        + 256 * (u32::from(address.second) + 256 * u32::from(address.minute)))
 }
 
 // Writes the chip of an accepted call over the record's words. A refused one leaves them as they were.

@@ -15,7 +15,7 @@ ghost use Rattle.exports.specs.Words.{at, subheader_in, seal_word, open_word, ju
 use answer::{at, packed, packed_address, packed_done};
 use reply::Refusal;
 use script::Bench;
-use sector::Subheader;
+use sector::{Judgement, Subheader};
 
 // Seals a buffer at an address where it lies, as a sector of mode 1.
 // Ruled out: one that seals at another address, and one that answers 0 where it refused.
@@ -43,14 +43,7 @@ pub extern "C" fn cdrom_seal_xa(
         × (sector.new ≡ seal_sector sector.old (at minute second frame) kind (subheader_in subheader.now)) }
 {
     let address = at(minute, second, frame);
-    let [file, channel, submode, coding] = *subheader;
-    let subheader = Subheader {
-        file,
-        channel,
-        submode,
-        coding,
-    };
-    packed_done(sector::seal(sector, address, kind, subheader))
+    packed_done(sector::seal(sector, address, kind, (*subheader).into()))
 }
 
 // Descrambles a sector where it lies.
@@ -69,7 +62,7 @@ pub extern "C" fn cdrom_judge(sector: &[u8], minute: u16, second: u16, frame: u1
     ensures { result ≡ judge_word sector.now (at minute second frame) }
 {
     let address = at(minute, second, frame);
-    packed(sector::judge(sector, address).map(|judgement| judgement.why()))
+    packed(sector::judge(sector, address).map(Judgement::why))
 }
 
 // Checks the parity of an opened sector.
@@ -78,7 +71,7 @@ pub extern "C" fn cdrom_judge(sector: &[u8], minute: u16, second: u16, frame: u1
 pub extern "C" fn cdrom_parity(sector: &[u8]) -> u32
     ensures { result ≡ parity_word sector.now }
 {
-    packed(sector::check_parity(sector).map(|holds| u16::from(holds)))
+    packed(sector::check_parity(sector).map(u16::from))
 }
 
 // The address that follows an address.

@@ -1,15 +1,13 @@
--- The end of a list: put anew from a place on, and cut off at a place that may lie past it. Assumes nothing.
+-- The end of a list: what is left from a place on, and a list whose end was put anew. Assumes nothing.
 use mathlib.Core.Path.{◌≡◌, sym, ap, ◌∙◌}
 use mathlib.Core.List.{List, ◌∷◌, ◌++◌}
-use mathlib.Core.Logic.{⊎_elim}
-use Prim.Native.Nat.{ℕ, ◌+◌, ◌-◌, ◌≤◌, ◌<◌, min}
+use Prim.Native.Nat.{ℕ, ◌+◌, ◌-◌, ◌≤◌, ◌<◌}
 use native.Mathlib.Numerals.{add-one}
 use native.Mathlib.Omega.{arith}
-use lib.ListN.{length, take, drop, get_or, length-append, length-drop, drop_of_length-le}
-use lib.Seq.{drop-cons, take_all, take-append-add, drop-append-add, length-take-le, take-append_seam, drop-append_seam}
+use lib.ListN.{length, take, drop, get_or, length-append, length-drop}
+use lib.Seq.{drop-cons, take-append-add, drop-append-add, length-take-le, take-append_seam, drop-append_seam}
 use borrow.Rule.Slice.PartMut.{put_mid, mid_of}
 use Rattle.laws.proofs.Parts.{put_rest, mid_rest}
-use Rattle.laws.proofs.Wrap.{lt_or_ge}
 
 -- what is left from a place on, one element further
 pub drop_next : (xs : List ℕ) (i : ℕ) → i < length xs → drop i xs ≡ get_or xs i 0 ∷ drop (i + 1) xs
@@ -41,19 +39,3 @@ module _ (l t : List ℕ) (a : ℕ) (h : a ≤ length l) (o : List ℕ) (e : o �
       ∙ ap (λ (n : ℕ). drop (n + length t) (take a l ++ (t ++ drop (length t) (drop a l)))) (sym (length-take-le a l h))
       ∙ drop-append-add (take a l) (t ++ drop (length t) (drop a l)) (length t)
       ∙ drop-append_seam t (drop (length t) (drop a l))
-
--- a list cut at a place, or at its end where that comes first
-module _ (k r : ℕ) (l : List ℕ) (e : r ≡ min k (length l)) where
-  pub least_take : take r l ≡ take k l
-  least_take =
-      ⊎_elim
-      (λ (h : k < length l). let q : r ≡ k = omega (arith, e) in ap (λ (n : ℕ). take n l) q)
-      (λ (h : length l ≤ k). let q : length l ≤ r = omega (arith, e) in take_all r l q ∙ sym (take_all k l h))
-      (lt_or_ge k (length l))
-
-  pub least_drop : drop r l ≡ drop k l
-  least_drop =
-      ⊎_elim
-      (λ (h : k < length l). let q : r ≡ k = omega (arith, e) in ap (λ (n : ℕ). drop n l) q)
-      (λ (h : length l ≤ k). let q : length l ≤ r = omega (arith, e) in drop_of_length-le l q ∙ sym (drop_of_length-le l h))
-      (lt_or_ge k (length l))

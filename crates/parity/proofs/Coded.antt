@@ -55,12 +55,12 @@ module _ (c : Code) (z : Bool) (s a b : List ℕ) (bytes : Bytes s) (m : Summed 
         ∙ sym (second_of c.data_size (word c z s v) (word_bytes c z s v bytes))
         ∙ second_same c.data_size (word c z s v) (word c z d v) (λ i k. same v i h k)
 
-    firsts_are : firsts a b ≡ listed (2 * c.words) (λ v. first_parity c.data_size (word c z d v))
+    pub firsts_are : firsts a b ≡ listed (2 * c.words) (λ v. first_parity c.data_size (word c z d v))
     firsts_are =
         ap (λ (n : ℕ). listed n (λ v. first_of_sums (get_or a v 0) (get_or b v 0))) m.size_a
         ∙ listed_same (2 * c.words) (λ v. first_of_sums (get_or a v 0) (get_or b v 0)) (λ v. first_parity c.data_size (word c z d v)) first_at
 
-    seconds_are : seconds a b ≡ listed (2 * c.words) (λ v. second_parity c.data_size (word c z d v))
+    pub seconds_are : seconds a b ≡ listed (2 * c.words) (λ v. second_parity c.data_size (word c z d v))
     seconds_are =
         ap (λ (n : ℕ). listed n (λ v. bit_xor (first_of_sums (get_or a v 0) (get_or b v 0)) (get_or a v 0))) m.size_a
         ∙ listed_same (2 * c.words) (λ v. bit_xor (first_of_sums (get_or a v 0) (get_or b v 0)) (get_or a v 0))

@@ -40,25 +40,33 @@ row_other first s i n h size =
     ∙ listed_of 86 (λ u. view first s (12 + 86 * i + u)) (take 86 (drop (12 + 86 * i) s)) (length_window (12 + 86 * i) 86 s (omega arith))
     (λ u l. get_d_window (12 + 86 * i) 86 u 0 s l ∙ sym (view_other first s (12 + 86 * i + u) (omega arith)))
 
--- P: all words meet each row, l
-pub p_step : (t : ℕ → ℕ) (i : ℕ) (l a b a' b' : List ℕ) → l ≡ listed 86 (λ u. t (12 + 86 * i + u)) → AreSums (p_lane t) (λ u. i) 86 a b
-    → Taken (λ u. get_or l u 0) 0 (length l) a b a' b' → AreSums (p_lane t) (λ u. i + 1) 86 a' b'
-p_step t i l a b a' b' e m k =
-    sums_more (p_lane t) (λ u. i) (λ u. i + 1) 86 (λ u. t (12 + 86 * i + u)) 0 86 a b a' b' m
-    (taken_as (λ u. get_or l u 0) (λ u. t (12 + 86 * i + u)) 0 (length l) 86 a b a' b'
-    (ap length e ∙ length_listed 86 (λ u. t (12 + 86 * i + u)))
-    (λ u h. ap (λ (r : List ℕ). get_or r u 0) e ∙ getD_listed 86 (λ u. t (12 + 86 * i + u)) u h)
-    k)
-    (omega arith)
+-- P: all words meet each row
+pub p_step : (t : ℕ → ℕ) (i : ℕ) (a b a' b' : List ℕ) → AreSums (p_lane t) (λ u. i) 86 a b → Taken (λ u. t (12 + 86 * i + 0 + u)) 0 86 a b a' b'
+    → AreSums (p_lane t) (λ u. i + 1) 86 a' b'
+p_step t i a b a' b' m k =
+    sums_more (p_lane t) (λ u. i) (λ u. i + 1) 86 (λ u. t (12 + 86 * i + 0 + u)) 0 86 a b a' b' m k (omega arith)
     (λ u h. (add-one i, ap t (place u)))
     (λ u h o. absurd (all u h o))
   where
-    place : (u : ℕ) → 12 + 86 * i + u ≡ 12 + 86 * i + (0 + u)
+    place : (u : ℕ) → 12 + 86 * i + 0 + u ≡ 12 + 86 * i + (0 + u)
     place u = omega arith
 
     all : (u : ℕ) → u < 86 → (u < 0) ⊎ (0 + 86 ≤ u) → ⊥
     all u h (inl o) = omega arith
     all u h (inr o) = omega arith
+
+-- the same of a row that is read as a list, l
+pub p_row : (t : ℕ → ℕ) (i : ℕ) (l a b a' b' : List ℕ) → l ≡ listed 86 (λ u. t (12 + 86 * i + u)) → AreSums (p_lane t) (λ u. i) 86 a b
+    → Taken (λ u. get_or l u 0) 0 (length l) a b a' b' → AreSums (p_lane t) (λ u. i + 1) 86 a' b'
+p_row t i l a b a' b' e m k =
+    p_step t i a b a' b' m
+    (taken_as (λ u. get_or l u 0) (λ u. t (12 + 86 * i + 0 + u)) 0 (length l) 86 a b a' b'
+    (ap length e ∙ length_listed 86 (λ u. t (12 + 86 * i + u)))
+    (λ u h. ap (λ (r : List ℕ). get_or r u 0) e ∙ getD_listed 86 (λ u. t (12 + 86 * i + u)) u h ∙ ap t (place u))
+    k)
+  where
+    place : (u : ℕ) → 12 + 86 * i + u ≡ 12 + 86 * i + 0 + u
+    place u = omega arith
 
 -- Q: word 25 - u / 2, at place u, meets row-step r where 25 ≤ u / 2 + r < 68
 
@@ -128,20 +136,24 @@ module _ (t : ℕ → ℕ) (r row p k n : ℕ) (hr : r < 68) (er : row ≡ r % 2
         joined : (x y z w : ℕ) → x ≡ y → p + u ≡ z + w → 12 + x + p + u ≡ 12 + y + z + w
         joined x y z w e f = omega arith
 
-  -- l is the row, and its n bytes from p on are taken in
-  pub q_step : (m : ℕ) (l a b a' b' : List ℕ) → m ≡ n → l ≡ listed 86 (λ u. t (12 + 86 * row + u)) → AreSums (q_lane t) (met r) 52 a b
-      → Taken (λ u. get_or (take m (drop p l)) u 0) k (length (take m (drop p l))) a b a' b' → AreSums (q_lane t) (met (r + 1)) 52 a' b'
-  q_step m l a b a' b' em e s x =
-      sums_more (q_lane t) (met r) (met (r + 1)) 52 (λ u. t (12 + 86 * row + p + u)) k n a b a' b' s
-      (taken_as (λ u. get_or (take m (drop p l)) u 0) (λ u. t (12 + 86 * row + p + u)) k (length (take m (drop p l))) n a b a' b'
-      (ap (λ (i : ℕ). length (take i (drop p l))) em ∙ length_window p n l (omega (arith, size, q_row_room)))
-      (λ u h. ap (λ (i : ℕ). get_or (take i (drop p l)) u 0) em ∙ get_d_window p n u 0 l h ∙ symbol u h)
-      x)
-      q_room
+  pub q_step : (a b a' b' : List ℕ) → AreSums (q_lane t) (met r) 52 a b → Taken (λ u. t (12 + 86 * row + p + u)) k n a b a' b'
+      → AreSums (q_lane t) (met (r + 1)) 52 a' b'
+  q_step a b a' b' m x =
+      sums_more (q_lane t) (met r) (met (r + 1)) 52 (λ u. t (12 + 86 * row + p + u)) k n a b a' b' m x q_room
       (λ u h. let l : k + u < 52 = omega (arith, q_room) in (met_next r (k + u) l (begun (k + u) (omega arith)) (going (k + u) (omega arith) l), ap t (place u h)))
       (λ u h. ⊎_elim
       (λ (under : u < k). met_before r u h (omega arith))
       (λ (over : k + n ≤ u). met_all (r + 1) u h (later u (ended u h over)) ∙ sym (met_all r u h (ended u h over))))
+
+  -- the same of a row that is read as a list, l, whose n bytes from p on are taken in
+  pub q_row : (m : ℕ) (l a b a' b' : List ℕ) → m ≡ n → l ≡ listed 86 (λ u. t (12 + 86 * row + u)) → AreSums (q_lane t) (met r) 52 a b
+      → Taken (λ u. get_or (take m (drop p l)) u 0) k (length (take m (drop p l))) a b a' b' → AreSums (q_lane t) (met (r + 1)) 52 a' b'
+  q_row m l a b a' b' em e s x =
+      q_step a b a' b' s
+      (taken_as (λ u. get_or (take m (drop p l)) u 0) (λ u. t (12 + 86 * row + p + u)) k (length (take m (drop p l))) n a b a' b'
+      (ap (λ (i : ℕ). length (take i (drop p l))) em ∙ length_window p n l (omega (arith, size, q_row_room)))
+      (λ u h. ap (λ (i : ℕ). get_or (take i (drop p l)) u 0) em ∙ get_d_window p n u 0 l h ∙ symbol u h)
+      x)
     where
       size : length l ≡ 86
       size = ap length e ∙ length_listed 86 (λ u. t (12 + 86 * row + u))

@@ -4,7 +4,7 @@ use Rattle.std.specs.Int.Bits.{bit_xor}
 use Rattle.laws.specs.Listed.{listed, all_below}
 use Rattle.parity.specs.Field.{times_x, product, power}
 use Rattle.parity.specs.Word.{sum}
-use Rattle.parity.specs.Layout.{Code, word}
+use Rattle.parity.specs.Layout.{Code, value_at, word}
 
 -- Tables
 
@@ -18,6 +18,10 @@ multiples c = listed 16 (λ k. product c k)
 unfoldable pub horner : ℕ → (ℕ → ℕ) → ℕ
 horner zero g = 0
 horner (suc n) g = bit_xor (times_x (horner n g)) (g n)
+
+-- the first row, bytes 12 to 97, as the words see it
+abbrev pub first_row : Bool → List ℕ → List ℕ
+first_row z s = listed 86 (λ k. value_at z s (12 + k))
 
 -- byte k of a sector whose first row, bytes 12 to 97, is another one
 abbrev pub view : List ℕ → List ℕ → ℕ → ℕ

@@ -7,7 +7,7 @@ ghost use Rattle.parity.specs.Field.{times_x, product, power};
 pub fn times_x(a: u8) -> u8
     ensures { result ≡ times_x a }
 {
-    ((a % 128) * 2) ^ ((a / 128) * 29)
+    (a % 128 * 2) ^ (a / 128 * 29)
 }
 
 // The product, bit by bit.

@@ -9,6 +9,7 @@ mod tables;
 ghost use Rattle.std.specs.Prelude.{◌≡◌, take};
 ghost use Rattle.parity.specs.Parity.{with_parity, parity_holds};
 
+use rows::Rows;
 use tables::Division;
 
 // Writes the parity of a sector behind its data, bytes 0 to 2,075, whatever lay there; the header counts as zeros where that is asked for.
@@ -17,8 +18,12 @@ pub fn write(sector: &mut [u8; 2352], masked: bool)
     ensures { sector.new ≡ with_parity masked (take 2076 sector.old) }
 {
     let division = Division::new();
-    rows::p_data(sector, masked).solve(&division, &mut sector[2076..2248]);
-    rows::q_data(sector, masked).solve(&division, &mut sector[2248..]);
+    Rows::new(sector, masked)
+        .p_sums()
+        .solve(&division, &mut sector[2076..2248]);
+    Rows::new(sector, masked)
+        .q_sums()
+        .solve(&division, &mut sector[2248..]);
 }
 
 // Whether every word of a descrambled sector holds.
@@ -26,7 +31,8 @@ pub fn write(sector: &mut [u8; 2352], masked: bool)
 pub fn check(sector: &[u8; 2352], masked: bool) -> bool
     ensures { result ≡ parity_holds masked sector.now }
 {
-    let p = rows::p_data(sector, masked).fit(&sector[2076..2248]);
-    let q = rows::q_data(sector, masked).fit(&sector[2248..]);
+    let rows = Rows::new(sector, masked);
+    let p = rows.p_sums().fit(&sector[2076..2248]);
+    let q = rows.q_sums().fit(&sector[2248..]);
     p & q
 }

@@ -3,8 +3,8 @@
 ghost use Rattle.std.specs.Prelude.{◌≡◌, ◌++◌, ◌+◌, ◌≤◌, length, get_or, take, drop, replicate};
 ghost use Rattle.parity.specs.Rows.{Taken, firsts, seconds, all_fit};
 
-use super::field::times_x;
-use super::tables::Division;
+use crate::field::times_x;
+use crate::tables::Division;
 
 // The sums of N words, plain and weighted.
 #[derive(Clone, Copy)]

@@ -3,7 +3,7 @@ ghost use Rattle.std.specs.Prelude.{◌≡◌};
 ghost use Rattle.parity.specs.Field.{product, power};
 ghost use Rattle.parity.specs.Rows.{multiples};
 
-use super::field::{power, product, times_x};
+use crate::field::{power, product, times_x};
 
 // 1 / (1 + x) = x^7 + x^6 + x^5 + x^4 + x^2, since 1 + x times that is x^8 + x^4 + x^3 + x^2, which is 1. It is power 230, and so made of
 // the least powers.
@@ -20,9 +20,8 @@ fn multiples(c: u8) -> [u8; 16]
     ensures { result ≡ multiples c }
 {
     let mut t = [0; 16];
-    for k in 1..16 {
-        let odd = (k % 2) as u8;
-        t[k] = times_x(t[k / 2]) ^ (odd * c);
+    for k in 1..16_u8 {
+        t[usize::from(k)] = times_x(t[usize::from(k / 2)]) ^ (k % 2 * c);
     }
     t
 }
@@ -51,6 +50,6 @@ impl Division {
     pub fn quotient(&self, a: u8) -> u8
         ensures { result ≡ product (power 230) a }
     {
-        self.low[(a % 16) as usize] ^ self.high[(a / 16) as usize]
+        self.low[usize::from(a % 16)] ^ self.high[usize::from(a / 16)]
     }
 }

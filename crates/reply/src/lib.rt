@@ -7,24 +7,24 @@ ghost use Rattle.reply.specs.Reply.{number, reply_of};
 // Why a call is refused. Of several that apply, the one with the lowest number is answered.
 #[derive(Clone, Copy, Debug, PartialEq, Eq)]
 pub enum Refusal {
-    // 1: the lent ring is not N × 2,560 bytes, the sector not 2,352, N outside 3..255, or the chip record unsound
-    Unfit,
-    // 2: a register that is not listed for that direction
-    Unlisted,
-    // 3: a value or address out of its stated range
-    OutOfRange,
-    // 4: barred by a running transfer, packet reception or BSY, where stated
-    Barred,
-    // 5: switches not as the call needs
-    Unready,
-    // 6: fewer good blocks (or no full packet) than asked
-    TooFew,
-    // 7: a sector with DECEN low
-    DecoderOff,
-    // 8: a sector after a bad one, DECEN not yet taken low
-    AfterBad,
-    // 9: a sector, and the ring is at its stop
-    AtStop,
+    // The lent ring is not N × 2,560 bytes, the sector not 2,352, N outside 3..255, or the chip record unsound.
+    Unfit = 1,
+    // A register that is not listed for that direction.
+    Unlisted = 2,
+    // A value or address out of its stated range.
+    OutOfRange = 3,
+    // Barred by a running transfer, packet reception or BSY, where stated.
+    Barred = 4,
+    // Switches not as the call needs.
+    Unready = 5,
+    // Fewer good blocks (or no full packet) than asked.
+    TooFew = 6,
+    // A sector with DECEN low.
+    DecoderOff = 7,
+    // A sector after a bad one, DECEN not yet taken low.
+    AfterBad = 8,
+    // A sector, and the ring is at its stop.
+    AtStop = 9,
 }
 
 impl Refusal {
@@ -33,17 +33,7 @@ impl Refusal {
     pub fn number(self) -> u8
         ensures { result ≡ number self }
     {
-        match self {
-            Refusal::Unfit => 1,
-            Refusal::Unlisted => 2,
-            Refusal::OutOfRange => 3,
-            Refusal::Barred => 4,
-            Refusal::Unready => 5,
-            Refusal::TooFew => 6,
-            Refusal::DecoderOff => 7,
-            Refusal::AfterBad => 8,
-            Refusal::AtStop => 9,
-        }
+        self as u8
     }
 }
 

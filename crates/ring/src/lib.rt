@@ -8,7 +8,7 @@ ghost use Rattle.std.specs.Prelude.{◌≡◌, ◌+◌, ◌%◌, ◌<◌};
 ghost use Rattle.ring.specs.Place.{opened, ring_facts, full, place_step, PlaceSound};
 
 use controller::{Event, RingFacts};
-pub use memory::{BLOCK, store, word_of};
+pub use memory::{BLOCK, store, window_start, word_of};
 
 #[derive(Clone, Copy, Debug, PartialEq, Eq, Default)]
 pub struct Place {
@@ -24,8 +24,8 @@ fn after(t: u16, k: u16, n: u16) -> u16
     requires { 0 < n }
     ensures { result ≡ (t + k) % n }
 {
-    let turn = n as u32;
-    let mut place = t as u32 + k as u32;
+    let turn = u32::from(n);
+    let mut place = u32::from(t) + u32::from(k);
     while turn <= place {
         place -= turn;
     }

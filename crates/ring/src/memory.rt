@@ -10,17 +10,6 @@ use slices::word_at;
 // The bytes of a block.
 pub const BLOCK: usize = 2560;
 
-// Receives a sector into a part of the ring that is a block's.
-fn fill(part: &mut [u8], sector: &[u8; LENGTH], expected: Address) -> Judgement
-    requires { length part.old ≡ 2352 }
-    ensures { record { bytes = part.new; judgement = result } ≡ received expected sector.now }
-{
-    let Some(block) = part.as_mut_array::<LENGTH>() else {
-        unreachable!();
-    };
-    sector::receive(block, sector, expected)
-}
-
 // Receives a sector into block b, which is lent for it: the blocks before and after it stay.
 // Ruled out: one that writes into the next block, and one that judges what the block held before.
 pub fn store(ring: &mut [u8], b: u16, sector: &[u8; LENGTH], expected: Address) -> Judgement
@@ -28,8 +17,19 @@ pub fn store(ring: &mut [u8], b: u16, sector: &[u8; LENGTH], expected: Address) 
     ensures judged { result ≡ (received expected sector.now).judgement }
     ensures ring { ring.new ≡ stored ring.old b (received expected sector.now).bytes }
 {
-    let start = b as usize * BLOCK;
-    fill(&mut ring[start..start + LENGTH], sector, expected)
+    let (_, rest) = ring.split_at_mut(usize::from(b) * BLOCK);
+    let Some(block) = rest.first_chunk_mut::<LENGTH>() else {
+        unreachable!();
+    };
+    sector::receive(block, sector, expected)
+}
+
+// The place in the ring of the byte of block t that its offset gives.
+// Ruled out: one that leaves the offset out, and one that gives the next block's byte.
+pub fn window_start(t: u16, offset: u16) -> usize
+    ensures { result ≡ base t + offset }
+{
+    usize::from(t) * BLOCK + usize::from(offset)
 }
 
 // A word of block t, its first byte low.
@@ -38,8 +38,5 @@ pub fn word_of(ring: &[u8], t: u16, offset: u16, place: u16) -> u16
     requires { base t + offset + 2 * place + 1 < length ring.now }
     ensures { result ≡ word_at ring.now (base t + offset + 2 * place) }
 {
-    word_at(
-        ring,
-        t as usize * BLOCK + offset as usize + 2 * place as usize,
-    )
+    word_at(ring, window_start(t, offset) + 2 * usize::from(place))
 }

@@ -121,6 +121,7 @@ static SCRAMBLE: [u8; 2340] = [
     67, 73, 241, 246, 196, 70, 211, 114, 221, 229, 153,
 ];
 
+#[tactic(auto, unfolding(crate::specs::Table::table))]
 pub fn table() -> &'static [u8; 2340]
     ensures { result.now ≡ table }
 {

@@ -1,32 +1,55 @@
--- What the bench answers, by cases of the word handed over and of a sector line. Assumes nothing.
-use Rattle.std.proofs.Common.{◌≡◌, ℕ, ◌+◌, ◌-◌, ◌<◌, ◌≤◌, Bool, true, false, not, ◌&&◌, eqb, ltb, leb, List, ◌++◌, length, get_or, take, drop, replicate, sym, refl, ap, ◌∙◌, add-zero, arith, take-append-drop, ltb-false, ltb-true, le-ltb, eq-eqb, eqb-true, le-leb, leb-true, true≢false, ap₂}
+-- What the bench answers, by cases of a result of the chip's and of a sector line, and how long a look is. Assumes nothing.
+use Rattle.std.proofs.Common.{◌≡◌, ℕ, ◌+◌, ◌-◌, ◌*◌, ◌<◌, ◌≤◌, Bool, true, false, not, ◌&&◌, eqb, ltb, leb, List, [], ◌++◌, length, get_or, take, drop, replicate, sym, refl, ap, ◌∙◌, add-zero, arith, take-append-drop, ltb-false, ltb-true, le-ltb, eq-eqb, eqb-true, le-leb, leb-true, true≢false, ap₂, subst, length-take}
 use lib.ListN.{length-replicate}
 use borrow.Rule.Slice.PartMut.{put_mid, mid_of}
-use borrow.Author.Tests.{not-false}
+use borrow.Author.Tests.{not-true, not-false, eqb-false}
 use Rattle.laws.specs.Bytes.{inverted}
-use Rattle.std.specs.Prelude.{if◌then◌else◌, Option}
+use Rattle.std.specs.Prelude.{if◌then◌else◌, Option, Some, Result, Ok, Err}
 use Rattle.laws.proofs.Bytes.{length_inverted, getD_inverted}
 use Rattle.laws.proofs.Parts.{put_part}
 use Rattle.laws.proofs.Window.{length_window, get_d_window, length_put, getD_put}
 use Rattle.laws.proofs.Choice.{if_case, if_true, if_false, then_same, left_true, right_true, not_of_true, not_of_false}
+use Rattle.laws.proofs.Tests.{and3}
 use Rattle.sector.specs.Address.{valid}
 use Rattle.sector.specs.Calls.{seal_reply, seal_sector}
 use Rattle.sector.specs.Layout.{agrees}
 use Rattle.sector.specs.declared.Address.{Address}
+use Rattle.outcomes.proofs.Consistent.{window_end}
+use Rattle.ring.specs.Memory.{base}
 use Rattle.reply.proofs.Claims.{nonzero}
 use Rattle.reply.specs.Reply.{Reply, refusal, number}
 use Rattle.reply.specs.declared.Refusal.{Refusal}
 use Rattle.chip.specs.Chip as chip
-use Rattle.chip.specs.Chip.{opened}
+use Rattle.chip.specs.Chip.{opened, ring_fits}
+use Rattle.chip.specs.Sound.{sound}
 use Rattle.chip.specs.Told as told
-use Rattle.chip.specs.Told.{Told}
+use Rattle.chip.specs.Told.{Told, WordTold}
 use Rattle.chip.specs.Calls as calls
 use Rattle.chip.specs.Calls.{Lent, lent, sector_lent}
+use Rattle.chip.specs.declared.Accepted.{Accepted}
 use Rattle.chip.specs.declared.Chip.{Chip}
-use Rattle.script.specs.Answers.{refused, of_told, opening, disc_number, brought, disc}
+use Rattle.chip.proofs.Answers.{looked_is, ready}
+use Rattle.script.specs.Answers.{Answer, answer_of, refused, of_told, opening, word, disc_number, brought, disc}
 use Rattle.script.specs.Disc.{inside, scratched, unsealed, arriving}
 use Rattle.script.specs.declared.disc.Damage.{Damage}
 use Rattle.script.specs.declared.disc.Carried.{Carried}
+
+-- what a result of the chip's stands for is the chip's own answer
+pub answer_told : (c : Chip) (r : Result Accepted Refusal) → answer_of (Some c) r ≡ of_told (told.told_of c r)
+answer_told c (Ok a) = refl
+answer_told c (Err r) = refl
+
+-- and of a host word's, its number and its value
+pub answer_word : (c : Chip) (ring : List ℕ) (r : Result Accepted Refusal) → told.word_told_of c r ≡ calls.word_told c ring → answer_of (Some c) r ≡ word c ring
+unfolding word
+answer_word c ring r e = case r ∙ ap of_word e
+  where
+    of_word : WordTold → Answer
+    of_word t = record { chip = Some t.chip; number = calls.word_number t.word; out = calls.word_value t.word }
+
+    case : (x : Result Accepted Refusal) → answer_of (Some c) x ≡ of_word (told.word_told_of c x)
+    case (Ok a) = refl
+    case (Err k) = refl
 
 -- a sector line
 module _ (c : Chip) (d : Carried) (ring s : List ℕ) (a : Address) (byte : ℕ) where
@@ -74,11 +97,12 @@ module _ (c : Chip) (d : Carried) (ring s : List ℕ) (a : Address) (byte : ℕ)
         let fit : (valid a && agrees d.kind d.subheader) ≡ true = ap₂ (λ (x y : Bool). x && y) h.1.1.0 h.1.1.1 in
         true≢false (sym (ap (λ (t : Reply). eqb t.number 0) (q ∙ if_true (eqb (length l) 2352) _ _ full ∙ if_true (valid a && agrees d.kind d.subheader) _ _ fit)) ∙ nonzero r)
 
-    pub disc_run : (s' t ring' : List ℕ) (x : Told) → s' ≡ seal_sector l a d.kind d.subheader → t ≡ scratched d.damage s'
-        → lent x ring' ≡ sector_lent c ring t → record { answer = of_told x; memory = ring'; sector = t } ≡ disc c d ring s a byte
+    pub disc_run : (s' t ring' : List ℕ) (r : Result Accepted Refusal) → s' ≡ seal_sector l a d.kind d.subheader → t ≡ scratched d.damage s'
+        → lent (told.told_of c r) ring' ≡ sector_lent c ring t → record { answer = answer_of (Some c) r; memory = ring'; sector = t } ≡ disc c d ring s a byte
     unfolding disc arriving
-    disc_run s' t ring' x p q k =
-        ap (λ (y : Lent). record { answer = of_told y.told; memory = y.ring; sector = t }) k
+    disc_run s' t ring' r p q k =
+        ap (λ (y : Answer). record { answer = y; memory = ring'; sector = t }) (answer_told c r)
+        ∙ ap (λ (y : Lent). record { answer = of_told y.told; memory = y.ring; sector = t }) k
         ∙ ap (brought c ring) (q ∙ ap (scratched d.damage) (p ∙ ap (λ (y : List ℕ). seal_sector y a d.kind d.subheader) u))
         ∙ sym (if_true _ _ _ (eq-eqb _ _ (sym e)))
 
@@ -130,6 +154,21 @@ scratched_none from s =
     if_case (λ (x : List ℕ). x ≡ s) (inside from 0) _ s
     (λ _. ap (λ (n : ℕ). take from s ++ drop n s) (add-zero from) ∙ take-append-drop from s)
     (λ _. refl)
+
+-- what a look shows is no longer than a sector
+pub look_short : (c : Chip) (ring : List ℕ) → length (calls.looked c ring) ≤ 2352
+look_short c ring =
+    let k = c.controller in
+    let t = eqb k.counts.tcc 0 in
+    let w = eqb k.window.words 0 in
+    subst (λ (l : List ℕ). length l ≤ 2352) (sym (looked_is c ring))
+    (if_case (λ (l : List ℕ). length l ≤ 2352) (sound c && ring_fits c ring && not t && not w) _ []
+    (λ h.
+    let s = and3 (sound c && ring_fits c ring) (not t) (not w) h in
+    let e = window_end k.window.offset k.window.words (ready c ring s.0).facts.window (eqb-false k.window.words 0 (not-true w s.2)) in
+    let n = length-take (2 * k.window.words) (drop (base c.place.t + k.window.offset) ring) in
+    omega (arith, e, n))
+    (λ h. omega arith))
 
 -- a ring that the chip refuses
 pub opening_barred : (n : ℕ) (r : Refusal) → told.refused chip.closed (number r) ≡ opened n → ltb 25 n ≡ false → (o : Option Chip) → refused o (number r) ≡ opening o n

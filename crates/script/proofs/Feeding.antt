@@ -122,10 +122,19 @@ module _ (bytes : ℕ) (start : Progress) (whole out₀ : List ℕ) (b : Bench) 
             ∙ ap (λ (n : ℕ). drop (size + n) out₀) (sym ez);
       }
 
+-- what the call leaves is what the progress at the end says
+left_as : (b : Bench) (m s out out₀ : List ℕ) (size taken : ℕ) (f : Progress) → now_at b m s out size taken ≡ f → size ≤ length out → drop size out ≡ drop size out₀
+    → record { result = record { bench = b; taken = taken; size = size }; memory = m; sector = s; out = out } ≡ fed_left f out₀
+left_as b m s out out₀ size taken f e h k =
+    let n = sym (length-take-le size out h) in
+    ap₂ (λ (z : ℕ) (o : List ℕ). record { result = record { bench = b; taken = taken; size = z }; memory = m; sector = s; out = o }) n
+    (sym (take-append-drop size out) ∙ ap (λ (l : List ℕ). take size out ++ l) k ∙ ap (λ (z : ℕ). take size out ++ drop z out₀) n)
+    ∙ ap (λ (d : Progress). fed_left d out₀) e
+
 -- the end: no line is left, or no room
-module _ (bytes : ℕ) (start : Progress) (whole out₀ : List ℕ) (b : Bench) (m s out : List ℕ) (size taken : ℕ) (st : Stands bytes start whole out₀ b m s out size taken)
+module _ {bytes : ℕ} {start : Progress} {whole out₀ : List ℕ} {b : Bench} {m s out : List ℕ} {size taken : ℕ} (st : Stands bytes start whole out₀ b m s out size taken)
     (lo : length out ≡ bytes) (hs : size ≤ length out) where
-  pub settled : (bytes < size + room) ⊎ (length (drop taken whole) ≤ line_end (drop taken whole)) → now_at b m s out size taken ≡ fed bytes start [] whole
+  settled : (bytes < size + room) ⊎ (length (drop taken whole) ≤ line_end (drop taken whole)) → now_at b m s out size taken ≡ fed bytes start [] whole
   settled q = sym (none bytes (now_at b m s out size taken) (drop taken whole) [] (stops q)) ∙ st.leads where
     stops : (bytes < size + room) ⊎ (length (drop taken whole) ≤ line_end (drop taken whole))
         → ltb bytes (length (take size out) + room) ≡ false → length (drop taken whole) ≤ line_end (drop taken whole)
@@ -136,11 +145,6 @@ module _ (bytes : ℕ) (start : Progress) (whole out₀ : List ℕ) (b : Bench) 
         omega (arith, r, z)
     stops (inr g) e = g
 
--- what the call leaves is what the progress at the end says
-pub left_as : (b : Bench) (m s out out₀ : List ℕ) (size taken : ℕ) (f : Progress) → now_at b m s out size taken ≡ f → size ≤ length out → drop size out ≡ drop size out₀
-    → record { result = record { bench = b; taken = taken; size = size }; memory = m; sector = s; out = out } ≡ fed_left f out₀
-left_as b m s out out₀ size taken f e h k =
-    let n = sym (length-take-le size out h) in
-    ap₂ (λ (z : ℕ) (o : List ℕ). record { result = record { bench = b; taken = taken; size = z }; memory = m; sector = s; out = o }) n
-    (sym (take-append-drop size out) ∙ ap (λ (l : List ℕ). take size out ++ l) k ∙ ap (λ (z : ℕ). take size out ++ drop z out₀) n)
-    ∙ ap (λ (d : Progress). fed_left d out₀) e
+  pub left : (bytes < size + room) ⊎ (length (drop taken whole) ≤ line_end (drop taken whole))
+      → record { result = record { bench = b; taken = taken; size = size }; memory = m; sector = s; out = out } ≡ fed_left (fed bytes start [] whole) out₀
+  left q = left_as b m s out out₀ size taken (fed bytes start [] whole) (settled q) hs st.behind

@@ -1,5 +1,5 @@
 -- What the bench answers to a call (paper 01, "Bench cases"; docs/DECISIONS.md, "Bench"), by the chip's own definitions. Assumes nothing.
-use Rattle.std.specs.Prelude.{ℕ, ◌*◌, Bool, not, List, ◌++◌, length, take, drop, ◌==◌, nat_lt, if◌then◌else◌, Option, Some, None, Result, Ok, Err}
+use Rattle.std.specs.Prelude.{ℕ, ◌*◌, Bool, not, List, ◌++◌, length, take, drop, ◌==◌, nat_lt, if◌then◌else◌, Option, Some, None, unwrap_or, Result, Ok, Err}
 use Rattle.reply.specs.Reply.{number}
 use Rattle.reply.specs.declared.Refusal.{Refusal}
 use Rattle.sector.specs.Address.{valid}
@@ -11,11 +11,10 @@ use Rattle.chip.specs.Chip.{opened}
 use Rattle.chip.specs.Calls as calls
 use Rattle.chip.specs.declared.Chip.{Chip}
 use Rattle.chip.specs.Told.{Told}
-use Rattle.chip.specs.declared.Accepted as chip_accepted
+use Rattle.chip.specs.declared.Accepted.{Accepted}
 use Rattle.syntax.specs.declared.line.Line.{Line}
 use Rattle.syntax.specs.declared.line.Line.TheVariants.{Open, Plain, Look, Take, Disc, Scratch, SetKind, SetSubheader}
 use Rattle.script.specs.Disc.{inside, known, four_bytes, arriving}
-use Rattle.script.specs.declared.call.Accepted.{Accepted}
 use Rattle.script.specs.declared.disc.Carried.{Carried}
 use Rattle.syntax.specs.declared.print.Shown.{Shown}
 
@@ -35,12 +34,8 @@ done c out = record { chip = Some c; number = 0; out = out }
 
 -- the answer that a call's result stands for, where such a chip was open before it
 abbrev pub answer_of : Option Chip → Result Accepted Refusal → Answer
-answer_of o (Ok a) = done a.chip a.out
+answer_of o (Ok a) = done a.chip a.value
 answer_of o (Err r) = refused o (number r)
-
--- what the chip accepted, for a private contract
-abbrev pub taken : chip_accepted.Accepted → Accepted
-taken a = record { chip = a.chip; out = a.value }
 
 -- the chip's own answer
 abbrev pub of_told : Told → Answer
@@ -138,8 +133,7 @@ answered (Some c) d m s (Some line) = with_rest (called c d (take (size c) m) s 
 
 -- the chip whose counters are printed: where none is open, a record of no blocks
 abbrev pub the_chip : Option Chip → Chip
-the_chip (Some c) = c
-the_chip None = chip.closed
+the_chip o = unwrap_or o chip.closed
 
 -- what the printed line shows: the answer, and after the call the counters, what failed of the last stored sector, and the interrupt
 abbrev pub shown : Answer → ℕ → Shown

@@ -1,5 +1,5 @@
 // The disc's side of the bench: what sector lines carry, and how the next one arrives.
-ghost use Rattle.std.specs.Prelude.{◌≡◌, length};
+ghost use Rattle.std.specs.Prelude.{◌≡◌};
 ghost use Rattle.script.specs.Disc.{undamaged, inside, scratched, known, four_bytes, subheader_of, at_first, carried_by};
 
 use sector::{LENGTH, Subheader};
@@ -29,13 +29,13 @@ impl Damage {
     }
 
     // The sector as it arrives.
-    pub(crate) fn scratch(self, sector: &mut [u8])
-        requires { length sector.old ≡ 2352 }
+    #[tactic(auto, unfolding(crate::specs::Disc::scratched), using(crate::proofs::Answering::turned))]
+    pub(crate) fn scratch(self, sector: &mut [u8; LENGTH])
         ensures { sector.new ≡ scratched self sector.old }
     {
         if self.inside() {
-            let from = self.from as usize;
-            let end = from + self.count as usize;
+            let from = usize::from(self.from);
+            let end = from + usize::from(self.count);
             slices::invert(&mut sector[from..end]);
         }
     }
@@ -50,21 +50,19 @@ pub(crate) fn known(kind: u16) -> bool
 pub(crate) fn four_bytes(file: u16, channel: u16, submode: u16, coding: u16) -> bool
     ensures { result ≡ four_bytes file channel submode coding }
 {
-    (file <= 255) & ((channel <= 255) & ((submode <= 255) & (coding <= 255)))
+    [file, channel, submode, coding].iter().all(|n| *n <= 255)
 }
 
 // The subheader of an accepted line, whose numbers are bytes.
 fn subheader_of(file: u16, channel: u16, submode: u16, coding: u16) -> Subheader
     ensures { result ≡ subheader_of file channel submode coding }
 {
-    let [file, channel, submode, coding] = [file, channel, submode, coding].map(
-        |n| n.to_le_bytes()[0],
-    );
+    let byte = |n: u16| (n % 256) as u8;
     Subheader {
-        file,
-        channel,
-        submode,
-        coding,
+        file: byte(file),
+        channel: byte(channel),
+        submode: byte(submode),
+        coding: byte(coding),
     }
 }
 

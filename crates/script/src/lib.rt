@@ -8,12 +8,11 @@ mod lines;
 
 ghost use Rattle.std.specs.Prelude.{◌≡◌, ◌≤◌};
 ghost use Rattle.script.specs.Answers.{answer_of};
-ghost use Rattle.script.specs.Bench.{started, ran, after};
+ghost use Rattle.script.specs.Bench.{started, ran, after, count};
 ghost use Rattle.script.specs.Disc.{carried_after};
 ghost use Rattle.syntax.specs.Print.{longest};
 
-use call::Accepted;
-use chip::Chip;
+use chip::{Accepted, Chip};
 pub use disc::{Carried, Damage};
 pub use lines::{Fed, feed};
 use reply::Refusal;
@@ -48,12 +47,13 @@ impl Bench {
         }
     }
 
-    // After a line, which is the last of so many. A refused one changes nothing but their number.
+    // After a line. A refused one changes nothing but the number of lines.
     #[tactic(auto, unfolding(crate::specs::Disc::carried_after))]
-    fn after(self, line: Option<Line>, outcome: Result<Accepted, Refusal>, lines: u64) -> Bench
+    fn after(self, line: Option<Line>, outcome: Result<Accepted, Refusal>) -> Bench
         ensures { let answer = answer_of self.chip outcome in
-            result ≡ after answer (carried_after self.carried line answer.number) lines }
+            result ≡ after answer (carried_after self.carried line answer.number) (count self) }
     {
+        let lines = self.lines.wrapping_add(1);
         match outcome {
             Ok(Accepted { chip, .. }) => Bench {
                 chip: Some(chip),
@@ -67,7 +67,7 @@ impl Bench {
     // Runs one line, given without its end, and puts the line to print at the start of `out`; with less room than `ROOM` nothing is done.
     // The ring is the start of the memory; the sector is a buffer of 2,352 bytes, in which a sector line seals.
     // Ruled out: one that gives the chip a call before an accepted opening, and one that prints the counters as they were before the call.
-    #[tactic(auto, unfolding(crate::specs::Bench::ran))]
+    #[tactic(auto, unfolding(crate::specs::Bench::ran), using(crate::proofs::Running::runs))]
     pub fn run(self, memory: &mut [u8], sector: &mut [u8], line: &[u8], out: &mut [u8]) -> Ran
         ensures told { record { result = result; memory = memory.new; sector = sector.new; out = out.new }
             ≡ ran self memory.old sector.old line.now out.old }
@@ -80,12 +80,10 @@ impl Bench {
             };
         }
         let line = syntax::line::parse(line);
-        let outcome = call::run(self.chip, self.carried, memory, sector, line);
-        let lines = self.lines.wrapping_add(1);
-        let size = syntax::print::print(out, call::shown(self.chip, outcome, lines));
-        Ran {
-            bench: self.after(line, outcome, lines),
-            size,
-        }
+        let outcome = self.outcome(memory, sector, line);
+        let bench = self.after(line, outcome);
+        let reply = outcome.map(|accepted| accepted.value);
+        let size = syntax::print::print(out, bench.shown(reply));
+        Ran { bench, size }
     }
 }

@@ -1,4 +1,4 @@
--- The cases of what the calls answer, as the code's returns have them, and what holds of an accepted call. Assumes nothing.
+-- A judgement by its four facts; what the calls answer, case by case; and what holds where a judging is answered 0. Assumes nothing.
 use mathlib.Core.Path.{◌≡◌, refl, ap, ◌∙◌}
 use mathlib.Core.Bool.{Bool, true, false}
 use mathlib.Core.List.{List}

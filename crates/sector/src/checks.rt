@@ -3,10 +3,10 @@ ghost use Rattle.std.specs.Prelude.{◌≡◌};
 ghost use Rattle.sector.specs.Layout.{layout_of};
 ghost use Rattle.sector.specs.Judge.{sync_holds, mode_holds, code_right, unwritten, edc_holds, address_holds, judgement};
 
-use super::frame::SYNC;
-use super::header::is_bcd_of;
-use super::layout::Kind;
-use super::{Address, Judgement, LENGTH};
+use crate::frame::SYNC;
+use crate::header::is_bcd_of;
+use crate::layout::Kind;
+use crate::{Address, Judgement, LENGTH};
 
 #[tactic(auto, unfolding(crate::specs::Judge::sync_holds))]
 fn sync_holds(sector: &[u8; LENGTH]) -> bool

@@ -2,7 +2,7 @@
 ghost use Rattle.std.specs.Prelude.{◌≡◌};
 ghost use Rattle.sector.specs.Judge.{staerr, good, tarsta_byte, why};
 
-use super::Judgement;
+use crate::Judgement;
 use numbers::weight;
 
 impl Judgement {

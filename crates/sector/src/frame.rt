@@ -2,23 +2,15 @@
 ghost use Rattle.std.specs.Prelude.{◌≡◌, true, false, ◌&&◌, ◌++◌, ◌⊎◌, ◌+◌, ◌≤◌, length, drop, replicate, MatchResult};
 ghost use Rattle.reply.specs.declared.Refusal.TheVariants.{OutOfRange};
 ghost use Rattle.sector.specs.Address.{valid};
-ghost use Rattle.sector.specs.Layout.{agrees, kind_number, layout_of, subheader_bytes, end};
+ghost use Rattle.sector.specs.Layout.{agrees, kind_number, layout_of, end};
 ghost use Rattle.sector.specs.Sector.{full_head, head, low4, framed, encoded};
 
-use super::layout::Kind;
-use super::{Address, LENGTH, Subheader};
+use crate::layout::Kind;
+use crate::{Address, LENGTH, Subheader};
 use reply::Refusal;
 
 // Bytes 0 to 11 of every sector.
 pub(crate) const SYNC: [u8; 12] = [0, 255, 255, 255, 255, 255, 255, 255, 255, 255, 255, 0];
-
-impl Subheader {
-    fn bytes(self) -> [u8; 4]
-        ensures { result ≡ subheader_bytes self }
-    {
-        [self.file, self.channel, self.submode, self.coding]
-    }
-}
 
 // What stands around the user bytes is made of these.
 #[derive(Clone, Copy)]
@@ -51,7 +43,7 @@ impl Frame {
     fn full_head(self) -> [u8; 24]
         ensures { result ≡ full_head (layout_of self.kind).mode self.address self.subheader }
     {
-        let subheader = self.subheader.bytes();
+        let subheader: [u8; 4] = self.subheader.into();
         let mut head = [0; 24];
         head[..12].copy_from_slice(&SYNC);
         head[12..15].copy_from_slice(&self.address.bytes());
@@ -97,15 +89,12 @@ impl Frame {
     }
 }
 
-// Writes the code's four bytes, the lowest first, and eight zeros behind it or none; of fixed length too.
+// Writes the code's four bytes, the lowest first, and so many zeros behind it.
 // Ruled out: one that leaves the zeros out, and one that writes them over form 2's end.
 fn put_tail(part: &mut [u8], code: u32, zeros: usize)
-    requires fact { (zeros ≡ 0) ⊎ (zeros ≡ 8) }
-    requires zeros_in_bounds { 4 + zeros ≤ length part.old }
+    requires { 4 + zeros ≤ length part.old }
     ensures { part.new ≡ (low4 code ++ replicate zeros 0) ++ drop (4 + zeros) part.old }
 {
     part[..4].copy_from_slice(&code.to_le_bytes());
-    if zeros == 8 {
-        part[4..12].fill(0);
-    }
+    part[4..4 + zeros].fill(0);
 }

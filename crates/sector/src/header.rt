@@ -1,8 +1,9 @@
-// The address of a sector: its range, the one after it, and its bytes in the header.
+// The address of a sector: its range, the one after it, and its bytes in the header. The subheader, from its four bytes and back.
 ghost use Rattle.std.specs.Prelude.{◌≡◌, true, ◌<◌, eqb};
 ghost use Rattle.sector.specs.Address.{valid, next, bcd, address_bytes};
+ghost use Rattle.sector.specs.Layout.{subheader_bytes};
 
-use super::Address;
+use crate::{Address, Subheader};
 
 impl Address {
     // Minute 0 to 99, second 0 to 59, frame 0 to 74.
@@ -67,4 +68,33 @@ pub(crate) fn is_bcd_of(byte: u8, n: u16) -> bool
     let tens = u32::from(byte >> 4);
     let ones = u32::from(byte & 15);
     ones <= 9 && 10 * tens + ones == u32::from(n)
+}
+
+// Ruled out: one that reads the submode before the channel, and one that reads the file number last.
+impl From<[u8; 4]> for Subheader {
+    ghost from_gives = { λ bytes r. subheader_bytes r ≡ bytes };
+
+    fn from(bytes: [u8; 4]) -> Subheader {
+        let [file, channel, submode, coding] = bytes;
+        Subheader {
+            file,
+            channel,
+            submode,
+            coding,
+        }
+    }
+}
+
+// Ruled out: one that writes the submode before the channel, and one that writes 0 for the coding information.
+impl From<Subheader> for [u8; 4] {
+    ghost from_gives = { λ subheader r. r ≡ subheader_bytes subheader };
+
+    fn from(subheader: Subheader) -> [u8; 4] {
+        [
+            subheader.file,
+            subheader.channel,
+            subheader.submode,
+            subheader.coding,
+        ]
+    }
 }

@@ -2,7 +2,7 @@
 ghost use Rattle.std.specs.Prelude.{◌≡◌};
 ghost use Rattle.sector.specs.Layout.{form, agrees, kind_read, kind_number, KindOf, layout_of, Fits};
 
-use super::{LENGTH, Subheader};
+use crate::{LENGTH, Subheader};
 use reply::Refusal;
 
 // The kinds 1, 2 and 3: mode 1, and the two forms of mode 2.
@@ -34,7 +34,7 @@ pub(crate) struct Layout {
     pub masked: bool,
 }
 
-// Ruled out: one that takes 257 for kind 1.
+// Ruled out: one that takes 257 for kind 1, and one that refuses kind 3.
 impl TryFrom<u16> for Kind {
     type Error = Refusal;
 
@@ -76,7 +76,7 @@ impl Kind {
     }
 
     // Whether a sector of the kind may be sealed with the subheader.
-    // Ruled out: one that looks at the form bit in mode 1.
+    // Ruled out: one that looks at the form bit in mode 1, and one that takes every subheader in mode 2.
     pub fn agrees(self, subheader: Subheader) -> bool
         ensures { result ≡ agrees (kind_number self) subheader }
     {

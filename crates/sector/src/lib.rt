@@ -62,9 +62,7 @@ pub fn seal(
     ensures { (done_of result ≡ seal_reply sector.old address kind subheader)
         × (sector.new ≡ seal_sector sector.old address kind subheader) }
 {
-    let Some(sector) = sector.as_mut_array::<LENGTH>() else {
-        return Err(Refusal::Unfit);
-    };
+    let sector = sector.as_mut_array::<LENGTH>().ok_or(Refusal::Unfit)?;
     let frame = Frame::new(address, kind, subheader)?;
     frame.put(sector);
     scramble::scramble(sector);
@@ -77,10 +75,8 @@ pub fn seal(
 pub fn open(sector: &mut [u8]) -> Result<(), Refusal>
     ensures { (done_of result ≡ open_reply sector.old) × (sector.new ≡ open_sector sector.old) }
 {
-    let Some(sector) = sector.as_mut_array::<LENGTH>() else {
-        return Err(Refusal::Unfit);
-    };
-    scramble::scramble(sector);
+    let scrambled = sector.as_mut_array::<LENGTH>().ok_or(Refusal::Unfit)?;
+    scramble::scramble(scrambled);
     Ok(())
 }
 

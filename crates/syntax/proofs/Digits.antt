@@ -47,3 +47,16 @@ length_decimal (suc k) n h =
     (λ (l : 10 ≤ n). let below : n / 10 < 10 ^ suc k = (div-lt_iff_lt-mul (omega arith)).1 (subst (λ (p : ℕ). n < p) (pow-suc 10 (suc k)) h) in
     omega (arith, length_more n l, length_decimal k (n / 10) below))
     (lt_or_ge n 10)
+
+-- as many as a type's numbers have
+pub digits_w8 : (n : ℕ) → n < 256 → length (decimal n) ≤ 3
+digits_w8 n h = length_decimal 2 n (omega arith)
+
+pub digits_w16 : (n : ℕ) → n < 65536 → length (decimal n) ≤ 5
+digits_w16 n h = length_decimal 4 n (omega arith)
+
+pub digits_w64 : (n : ℕ) → n < 18446744073709551616 → length (decimal n) ≤ 20
+digits_w64 n h = length_decimal 19 n (omega arith)
+
+pub digits_bit : (n : ℕ) → n < 10 → length (decimal n) ≤ 1
+digits_bit n h = length_decimal 0 n (omega arith)

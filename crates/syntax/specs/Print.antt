@@ -2,6 +2,7 @@
 use Rattle.std.specs.Prelude.{Bool, ◌≡◌, List, [], ◌∷◌, ◌++◌, ℕ, zero, suc, ◌+◌, ◌/◌, ◌%◌, ltb, length, drop, if◌then◌else◌}
 use Rattle.std.proofs.lemmas.List.Edits.{sets}
 use Rattle.syntax.specs.declared.print.Shown.{Shown}
+use Rattle.syntax.specs.declared.decimal.Writer.{Writer}
 
 -- a number in decimal: its digits in ASCII, the highest first, with no zero in front; of more than k digits the last k
 unfoldable pub decimal_upto : ℕ → ℕ → List ℕ
@@ -68,3 +69,8 @@ over bytes buffer = bytes ++ drop (length bytes) buffer
 pub record Written (before : List ℕ) (at : ℕ) (text after : List ℕ) (end : ℕ) : Type 0 where
   pub bytes : after ≡ sets before at text
   pub place : end ≡ at + length text
+
+-- and a writer after it wrote text: into the same loan, which is as `Written` says
+pub record Wrote (old : Writer) (text : List ℕ) (new : Writer) : Type 0 where
+  pub same : new.out.ghost_name ≡ old.out.ghost_name
+  pub written : Written old.out.now old.at text new.out.now new.at

@@ -23,7 +23,9 @@ pub(crate) fn form<'a>(line: &[u8], space: &'a mut [u8; LONGEST]) -> &'a [u8]
     for byte in line {
         space[at] = mark(*byte);
         let digit = byte.is_ascii_digit();
-        at += usize::from(!(inside & digit));
+        if !(inside & digit) {
+            at += 1;
+        }
         inside = digit;
     }
     &space[..at]

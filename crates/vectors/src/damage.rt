@@ -1,16 +1,16 @@
 // Copies of a plain sector with one byte changed, at the first and the last place of each of its parts, or with its EDC taken away.
-use super::kinds::Kind;
-use super::record::Record;
-use super::tally::Tally;
+use crate::kinds::Kind;
+use crate::record::Record;
+use crate::tally::Tally;
 
 // The copy changed at `place` is judged so.
 fn changed(record: &Record, place: usize, why: u16) -> bool {
-    let mut sector = record.plain;
-    let Some(byte) = sector.get_mut(place) else {
+    let mut damaged = *record;
+    let Some(byte) = damaged.plain.get_mut(place) else {
         return false;
     };
     *byte ^= 0x10;
-    record.with_plain(sector).is_judged(record.address, why)
+    damaged.is_judged(record.address, why)
 }
 
 // Each of the copies that are changed at one of these places is judged so.
@@ -21,9 +21,8 @@ fn each(record: &Record, places: &[usize], why: u16) -> bool {
 // The four bytes of the EDC are zero: in form 2 there is none, and nothing fails; in any other kind it is wrong.
 fn no_edc(record: &Record) -> bool {
     let code = record.kind.layout().code;
-    let mut sector = record.plain;
-    sector[code..code + 4].fill(0);
-    let without = record.with_plain(sector);
+    let mut without = *record;
+    without.plain[code..code + 4].fill(0);
     if record.kind == Kind::Form2 {
         return without.is_judged(record.address, 0) && changed(&without, 24, 0);
     }

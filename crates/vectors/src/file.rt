@@ -1,8 +1,8 @@
 // The file of vectors: a header of 32 bytes, then records of 7,052 bytes, read one at a time. Whatever is wrong with it is a check
 // that failed, and ends the reading.
-use super::kinds::Kind;
-use super::record::{Record, SIZE, word};
-use super::tally::Tally;
+use crate::kinds::Kind;
+use crate::record::{Record, SIZE, word};
+use crate::tally::Tally;
 use std::io::Read;
 use std::rt::Files;
 use std::{fmt, fs};

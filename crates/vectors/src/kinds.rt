@@ -1,7 +1,7 @@
 // Where everything stands in a sector of each kind, by ECMA-130 and CD-ROM XA; nothing of it is taken from the library.
 ghost use Rattle.std.specs.Prelude.{◌+◌, ◌<◌, ◌≤◌};
 
-use super::file::Fault;
+use crate::file::Fault;
 
 // Mode 1, and the two forms of mode 2, by their numbers.
 #[derive(Clone, Copy, Debug, PartialEq, Eq)]

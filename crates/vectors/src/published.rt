@@ -1,5 +1,5 @@
 // The published values: the check value of the EDC, and the beginning of the sequence that a sector is scrambled with.
-use super::tally::Tally;
+use crate::tally::Tally;
 use sector::LENGTH;
 
 // The sequence's first 16 bytes.

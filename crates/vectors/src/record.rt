@@ -2,10 +2,10 @@
 // sector from 2,348, and the scrambled sector from 4,700 to its end, 7,052.
 ghost use Rattle.std.specs.Prelude.{◌+◌, ◌≤◌, length};
 
-use super::file::Fault;
-use super::kinds::{Kind, Layout};
-use super::tally::Tally;
-use super::{damage, words};
+use crate::file::Fault;
+use crate::kinds::{Kind, Layout};
+use crate::tally::Tally;
+use crate::{damage, words};
 use sector::{Address, Judgement, LENGTH, Subheader};
 
 pub(crate) const SIZE: usize = 7052;
@@ -50,12 +50,7 @@ impl TryFrom<&[u8; SIZE]> for Record {
             address: address_of(frames),
             // 99:59:74 is the last address, and the first follows it.
             next: address_of(frames % 450000 + 1),
-            subheader: Subheader {
-                file: bytes[12],
-                channel: bytes[13],
-                submode: bytes[14],
-                coding: bytes[15],
-            },
+            subheader: Subheader::from(*bytes[12..16].as_array().unwrap()),
             code: word(bytes, 20),
             user: *bytes[24..2348].as_array().unwrap(),
             plain: *bytes[2348..4700].as_array().unwrap(),
@@ -70,11 +65,6 @@ pub(crate) fn parity_agrees(plain: &[u8; LENGTH]) -> bool {
 }
 
 impl Record {
-    // The same with another plain sector.
-    pub(crate) fn with_plain(&self, plain: [u8; LENGTH]) -> Record {
-        Record { plain, ..*self }
-    }
-
     // The EDC of the bytes that it covers is the file's.
     fn has_code(&self) -> bool {
         let layout = self.kind.layout();

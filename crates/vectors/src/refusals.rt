@@ -2,7 +2,7 @@
 // and no byte changed.
 ghost use Rattle.std.specs.Prelude.{◌≤◌};
 
-use super::tally::Tally;
+use crate::tally::Tally;
 use reply::Refusal;
 use sector::{Address, LENGTH, Subheader};
 

@@ -1,7 +1,7 @@
 // The parity words of a plain sector, with the header as it is or taken as zeros.
-use super::kinds::Kind;
-use super::record::{Record, parity_agrees};
-use super::tally::Tally;
+use crate::kinds::Kind;
+use crate::record::{Record, parity_agrees};
+use crate::tally::Tally;
 use sector::LENGTH;
 
 // Written over other bytes, the parity is the sector's own.

@@ -1,4 +1,4 @@
--- `edc::edc` meets its contract. The invariant: the ring's register, with what is left of the bytes, gives the code. Assumes nothing.
+-- The loop of `edc::edc`: the ring's register, with what is left of the bytes, gives the code. Assumes nothing.
 use mathlib.Core.Path.{◌≡◌}
 use Prim.Native.Nat.{◌+◌, ◌*◌, ◌%◌}
 use lib.ListN.{length, drop}

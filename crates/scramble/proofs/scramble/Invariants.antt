@@ -1,5 +1,5 @@
--- `scramble::scramble` meets its contract. The loop's invariant: the sync bytes are as they were, the i bytes behind them are the xored ones, and the
--- others are as they were. Assumes nothing.
+-- What holds in the loop of `scramble::scramble`: the sync bytes are as they were, the i bytes behind them are the xored ones, and the others are as they
+-- were. Assumes nothing.
 use Rattle.std.proofs.Common.{◌≡◌, length, ℕ, ◌+◌, ◌<◌, ◌≤◌, get_or, bit_xor}
 use Rattle.scramble.specs.Table.{table}
 use Rattle.scramble.proofs.scramble.Given as goal

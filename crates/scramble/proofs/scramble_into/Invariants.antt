@@ -1,5 +1,4 @@
--- `scramble::scramble_into` meets its contract. The loop's invariant: the sync bytes are those of `src`, and the i bytes behind them are the xored ones.
--- Assumes nothing.
+-- What holds in the loop of `scramble::scramble_into`: the sync bytes are those of `src`, and the i bytes behind them are the xored ones. Assumes nothing.
 use Rattle.std.proofs.Common.{◌≡◌, length, ℕ, ◌+◌, ◌<◌, get_or, bit_xor}
 use Rattle.scramble.specs.Table.{table}
 use Rattle.scramble.proofs.scramble_into.Given as goal

@@ -1,4 +1,4 @@
--- `slices::invert` meets its contract. The loop's invariant: the bytes before the index are inverted, and the others are as they were. Assumes nothing.
+-- The loop of `slices::invert`: the bytes before the index are inverted, and the others are as they were. Assumes nothing.
 use Rattle.std.proofs.Common.{◌≡◌, ℕ, ◌-◌, ◌<◌, ◌≤◌, get_or}
 use Rattle.slices.proofs.invert.Given as goal
 

@@ -1,4 +1,4 @@
--- `bench::Runner::run` meets its contract. The loop's invariant: an unended line of at most 81 bytes is kept. Assumes nothing.
+-- The loop of `bench::Runner::run`: of a line with no end yet at most 81 bytes are kept. Assumes nothing.
 use Rattle.std.proofs.Common.{◌≤◌}
 use Rattle.bench.proofs.Runner.run.Given as goal
 

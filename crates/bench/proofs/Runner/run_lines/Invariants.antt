@@ -1,4 +1,4 @@
--- `bench::Runner::run_lines` meets its contract. The loop's invariant: what was run lies within the input. Assumes nothing.
+-- The loop of `bench::Runner::run_lines`: what was run lies within the input. Assumes nothing.
 use Rattle.std.proofs.Common.{◌-◌, ◌≤◌, length}
 use Rattle.bench.proofs.Runner.run_lines.Given as goal
 

@@ -1,4 +1,4 @@
--- `burst::copy::copy_words` meets its contract. The loop's invariant: the words before `i` are copied. Assumes nothing.
+-- The loop of `burst::copy::copy_words`: the words before `i` are copied. Assumes nothing.
 use Rattle.std.proofs.Common.{◌≡◌, ℕ, ◌+◌, ◌*◌, ◌<◌, get_or}
 use Rattle.laws.specs.Bytes.{word_at}
 use Rattle.burst.proofs.copy.copy_words.Given as goal

@@ -1,5 +1,4 @@
--- `controller::transfer::within_words` meets its contract. The loop's invariant: the lesser of what is left and the bound is that of what was asked for.
--- Assumes nothing.
+-- The loop of `controller::transfer::within_words`: the lesser of what is left and the bound is that of what was asked for. Assumes nothing.
 use mathlib.Core.Path.{◌≡◌}
 use Prim.Native.Nat.{◌*◌, ◌/◌, min}
 use Rattle.controller.proofs.transfer.within_words.Given as goal

@@ -1,4 +1,4 @@
--- `edc::words::pad` meets its contract. The invariant: what is written, and then what is left of the bytes, gives the code. Assumes nothing.
+-- `edc::words::pad` meets its contract: the zeros leave the register empty, and each byte is xored into the zero of its place. Assumes nothing.
 use mathlib.Core.Path.{◌≡◌, sym, ap, ◌∙◌}
 use mathlib.Core.List.{List}
 use Prim.Native.Nat.{ℕ, ◌+◌, ◌-◌}
@@ -9,7 +9,7 @@ use lib.Bits.{bit_xor}
 use Rattle.laws.proofs.Fill.{zeros}
 use Rattle.edc.specs.Edc.{edc}
 use Rattle.edc.proofs.Laws.{edc_end}
-use Rattle.edc.proofs.Octets.{edc_zeros, pad_next}
+use Rattle.edc.proofs.Octets.{edc_zeros, pad_xored}
 use Rattle.edc.proofs.words.pad.Goals as goal
 
 pub loop-i-init : goal.loop-i-init
@@ -29,7 +29,7 @@ loop-i-preserved c = let l = c.loop-i in
       long = length-set l.run m v ∙ l.invariant.long;
       zeros = λ k h. get_or-set_other l.run m k v 0 (λ z. omega arith) ∙ l.invariant.zeros k (omega arith);
       total = ap (λ (k : ℕ). edc (edc 0 (take k (set l.run m v))) (drop (l.i + 1) s)) e
-          ∙ pad_next s l.run l.i m (omega arith) (omega arith) (l.invariant.zeros m (omega arith)) ∙ l.invariant.total;
+          ∙ pad_xored s l.run l.i m (omega arith) (omega arith) (l.invariant.zeros m (omega arith)) ∙ l.invariant.total;
     }
 
 pub returns : goal.returns

@@ -1,4 +1,4 @@
--- `edc::words::pad` meets its contract. The invariant: what is written, and then what is left of the bytes, gives the code. Assumes nothing.
+-- The loop of `edc::words::pad`: what is written, and then what is left of the bytes, gives the code, and zeros follow. Assumes nothing.
 use mathlib.Core.Path.{◌≡◌}
 use Prim.Native.Nat.{ℕ, ◌+◌, ◌≤◌}
 use lib.ListN.{length, get_or, take, drop}

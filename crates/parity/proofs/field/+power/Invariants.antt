@@ -1,4 +1,4 @@
--- `parity::field::power` meets its contract: the measure is the exponent. Assumes nothing.
+-- The calls of `parity::field::power` by itself: the exponent goes down. Assumes nothing.
 use Rattle.parity.proofs.field.+power.Given as goal
 
 abbrev pub decreases-power : goal.decreases-power

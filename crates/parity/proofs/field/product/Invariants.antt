@@ -1,5 +1,4 @@
--- `parity::field::product` meets its contract. The invariant: the sum so far and the product of what is left give the product.
--- Assumes nothing.
+-- The loop of `parity::field::product`: the sum so far and the product of what is left give the product. Assumes nothing.
 use mathlib.Core.Path.{◌≡◌}
 use Prim.Native.Nat.{◌<◌, ◌-◌}
 use lib.Bits.{bit_xor}

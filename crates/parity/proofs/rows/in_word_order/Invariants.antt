@@ -1,4 +1,4 @@
--- `parity::rows::in_word_order` meets its contract. Assumes nothing.
+-- The loop of `parity::rows::in_word_order`: the sums of the words before `v` stand in their order. Assumes nothing.
 use Prim.Native.Nat.{ℕ, ◌+◌, ◌*◌, ◌-◌, ◌/◌, ◌%◌}
 use lib.ListN.{get_or, replicate}
 use Rattle.laws.proofs.Mapped.{Mapped}

@@ -1,4 +1,4 @@
--- `parity::tables::multiples` meets its contract. Assumes nothing.
+-- The loop of `parity::tables::multiples`: the entries before `k` are there. Assumes nothing.
 use lib.ListN.{replicate}
 use Rattle.laws.proofs.Mapped.{Mapped}
 use Rattle.parity.specs.Field.{product}

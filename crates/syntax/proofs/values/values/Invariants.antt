@@ -1,4 +1,4 @@
--- `syntax::values::values` meets its contract. The loop's invariant: the numbers so far, carried on over what is left, are the line's.
+-- What holds in the loop of `syntax::values::values`: the numbers so far, carried on over what is left, are the line's.
 -- Assumes nothing.
 use Rattle.std.proofs.Common.{◌≡◌, drop}
 use Rattle.std.specs.Prelude.{Some}

@@ -1,4 +1,4 @@
--- `edc::division::Ring::add_back` meets its contract. The invariant: the words below `i` have theirs xored in. Assumes nothing.
+-- `edc::division::Ring::add_back` meets its contract: one more word has its own xored in. Assumes nothing.
 use native.Mathlib.Omega.{arith}
 use Rattle.edc.proofs.Ring.{back_next}
 use Rattle.edc.proofs.division.Ring.add_back.Goals as goal

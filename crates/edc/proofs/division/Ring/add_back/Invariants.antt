@@ -1,4 +1,4 @@
--- `edc::division::Ring::add_back` meets its contract. The invariant: the words below `i` have theirs xored in. Assumes nothing.
+-- The loop of `edc::division::Ring::add_back`: the words below `i` have theirs xored in. Assumes nothing.
 use Rattle.edc.proofs.Ring.{Back}
 use Rattle.edc.proofs.division.Ring.add_back.Given as goal
 

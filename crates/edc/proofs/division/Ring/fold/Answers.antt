@@ -1,4 +1,4 @@
--- `edc::division::Ring::fold` meets its contract. The invariant: the words from `i` on leave the register that those from `start` on left. Assumes nothing.
+-- `edc::division::Ring::fold` meets its contract: word `i` is moved to three places after it. Assumes nothing.
 use mathlib.Core.Path.{◌∙◌}
 use Prim.Native.Nat.{◌+◌}
 use native.Mathlib.Omega.{arith}

@@ -1,4 +1,4 @@
--- `edc::division::Ring::fold` meets its contract. The invariant: the words from `i` on leave the register that those from `start` on left. Assumes nothing.
+-- The loop of `edc::division::Ring::fold`: the words from `i` on leave the register that those from `start` on left. Assumes nothing.
 use mathlib.Core.Path.{◌≡◌}
 use Prim.Native.Nat.{◌-◌}
 use Rattle.edc.specs.Fold.{code, along}

@@ -1,4 +1,4 @@
--- `edc::division::Ring::stretch` meets its contract. The invariant: the ring's register, with what is left of the run, gives the code. Assumes nothing.
+-- `edc::division::Ring::stretch` meets its contract: the ring takes one more word of the run. Assumes nothing.
 use mathlib.Core.Path.{◌≡◌, refl, ap₂, ◌∙◌}
 use Prim.Native.Nat.{ℕ, ◌+◌, ◌*◌}
 use native.Mathlib.Omega.{arith}

@@ -1,4 +1,4 @@
--- `edc::division::Ring::stretch` meets its contract. The invariant: the ring's register, with what is left of the run, gives the code. Assumes nothing.
+-- The loop of `edc::division::Ring::stretch`: the ring's register, with what is left of the run, gives the code. Assumes nothing.
 use mathlib.Core.Path.{◌≡◌}
 use Prim.Native.Nat.{◌*◌}
 use lib.ListN.{drop}

@@ -1,4 +1,4 @@
--- `parity::sums::Sums::fit` meets its contract. Assumes nothing.
+-- The loop of `parity::sums::Sums::fit`: `held` says whether all words before `v` hold. Assumes nothing.
 use mathlib.Core.Path.{◌≡◌}
 use Prim.Native.Nat.{ℕ}
 use lib.ListN.{get_or}

@@ -1,4 +1,4 @@
--- `parity::sums::Sums::solve` meets its contract. Assumes nothing.
+-- The loop of `parity::sums::Sums::solve`: the words before `v` have their two symbols. Assumes nothing.
 use Prim.Native.Nat.{ℕ}
 use lib.ListN.{get_or}
 use lib.Bits.{bit_xor}

@@ -1,4 +1,4 @@
--- `parity::sums::Sums::take_in` meets its contract. Assumes nothing.
+-- The loop of `parity::sums::Sums::take_in`: the symbols before `v` are taken in. Assumes nothing.
 use Prim.Native.Nat.{ℕ}
 use lib.ListN.{get_or}
 use Rattle.parity.specs.Rows.{Taken}

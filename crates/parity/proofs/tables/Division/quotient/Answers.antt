@@ -1,6 +1,6 @@
 -- `parity::tables::Division::quotient` meets its contract. Assumes nothing.
 use mathlib.Core.List.{List}
-use mathlib.Core.Path.{sym, ap, ap₂, ◌∙◌}
+use mathlib.Core.Path.{sym, ap₂, ◌∙◌}
 use Prim.Native.Nat.{ℕ, ◌/◌, ◌%◌}
 use native.Mathlib.Omega.{arith}
 use lib.Bits.{bit_xor}
@@ -14,7 +14,7 @@ use Rattle.parity.proofs.tables.Division.quotient.Goals as goal
 pub returns : goal.returns
 returns c =
     ap₂ bit_xor
-    (ap (λ (l : List ℕ). get_or l (c.args.a % 16) 0) c.args.self.now.low_is ∙ getD_listed 16 (product (power 230)) (c.args.a % 16) (omega arith))
-    (ap (λ (l : List ℕ). get_or l (c.args.a / 16) 0) c.args.self.now.high_is
+    (ap₂ (λ (l : List ℕ) (k : ℕ). get_or l k 0) c.args.self.now.low_is c.from.ensures ∙ getD_listed 16 (product (power 230)) (c.args.a % 16) (omega arith))
+    (ap₂ (λ (l : List ℕ) (k : ℕ). get_or l k 0) c.args.self.now.high_is c.from-2.ensures
     ∙ getD_listed 16 (product (product (power 4) (power 230))) (c.args.a / 16) (omega (arith, c.ranges.a.fits)))
     ∙ sym (product_nibbles (power 230) c.args.a (power_lt 230) c.ranges.a.fits)

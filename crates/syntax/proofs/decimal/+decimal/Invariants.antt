@@ -1,5 +1,0 @@
--- `syntax::decimal::decimal` calls itself, and the measure is the number. Assumes nothing.
-use Rattle.syntax.proofs.decimal.+decimal.Given as goal
-
-abbrev pub decreases-decimal : goal.decreases-decimal
-decreases-decimal l = l.n

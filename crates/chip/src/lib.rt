@@ -69,7 +69,8 @@ fn is_ring_size(n: u16) -> bool
     (3..=255).contains(&n)
 }
 
-// The end of every call for which the controller has taken its step.
+// The end of every call for which the controller has taken its step. A call of its own would hand the whole record over, field by field, and back.
+#[inline(always)]
 fn conclude(place: Place, step: controller::Accepted) -> Accepted
     requires { PlaceSound place }
     ensures { accepted_told result ≡ finished place (concluded (accepted step)) }

@@ -123,7 +123,8 @@ pub fn encode(words: &mut [u16; 28], chip: Chip)
 #[tactic(auto, unfolding(crate::specs::Words::decoded), using(crate::proofs::Moved::moved))]
 pub fn advance(words: &mut [u16; 28])
     requires { (decoded words.old).controller.transfer.position + 1 < 65536 }
-    ensures { decoded words.new ≡ at_position (decoded words.old) ((decoded words.old).controller.transfer.position + 1) }
+    ensures others { words.new ≡ set words.old 14 (word words.old 14 + 1) }
+    ensures position { decoded words.new ≡ at_position (decoded words.old) ((decoded words.old).controller.transfer.position + 1) }
 {
     words[14] += 1;
 }

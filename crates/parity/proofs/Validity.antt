@@ -173,6 +173,11 @@ module _ (c : Code) (n : ℕ) (at : Placed c n) (z : Bool) where
 -- Both codes
 
 module _ (z : Bool) (d : List ℕ) (size : length d ≡ 2076) where
+  -- the data, and behind it both parities
+  pub with_parts : with_parity z d ≡ d ++ (parity_bytes p z d ++ parity_bytes q z (coded p z d))
+  unfolding with_parity
+  with_parts = append_assoc d (parity_bytes p z d) (parity_bytes q z (coded p z d))
+
   pub p_long : length (coded p z d) ≡ 2248
   unfolding p
   p_long = length_coded p 2076 p_placed z d size
@@ -180,11 +185,6 @@ module _ (z : Bool) (d : List ℕ) (size : length d ≡ 2076) where
   pub length_with : length (with_parity z d) ≡ 2352
   unfolding with_parity q
   length_with = length_coded q 2248 q_placed z (coded p z d) p_long
-
-  -- the data, and behind it both parities
-  pub with_parts : with_parity z d ≡ d ++ (parity_bytes p z d ++ parity_bytes q z (coded p z d))
-  unfolding with_parity
-  with_parts = append_assoc d (parity_bytes p z d) (parity_bytes q z (coded p z d))
 
   pub front_with : take 2076 (with_parity z d) ≡ d
   front_with = ap (take 2076) with_parts ∙ take_at d (parity_bytes p z d ++ parity_bytes q z (coded p z d)) 2076 size

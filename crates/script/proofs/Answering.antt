@@ -4,7 +4,7 @@ use lib.ListN.{length-replicate}
 use borrow.Rule.Slice.PartMut.{put_mid, mid_of}
 use borrow.Author.Tests.{not-true, not-false, eqb-false}
 use Rattle.laws.specs.Bytes.{inverted}
-use Rattle.std.specs.Prelude.{if◌then◌else◌, Option, Some, Result, Ok, Err}
+use Rattle.std.specs.Prelude.{if◌then◌else◌, Result, Ok, Err}
 use Rattle.laws.proofs.Bytes.{length_inverted, getD_inverted}
 use Rattle.laws.proofs.Parts.{put_part}
 use Rattle.laws.proofs.Window.{length_window, get_d_window, length_put, getD_put}
@@ -35,19 +35,19 @@ use Rattle.script.specs.declared.disc.Damage.{Damage}
 use Rattle.script.specs.declared.disc.Carried.{Carried}
 
 -- what a result of the chip's stands for is the chip's own answer
-pub answer_told : (c : Chip) (r : Result Accepted Refusal) → answer_of (Some c) r ≡ of_told (told.told_of c r)
+pub answer_told : (c : Chip) (r : Result Accepted Refusal) → answer_of (Ok c) r ≡ of_told (told.told_of c r)
 answer_told c (Ok a) = refl
 answer_told c (Err r) = refl
 
 -- and of a host word's, its number and its value
-pub answer_word : (c : Chip) (ring : List ℕ) (r : Result Accepted Refusal) → told.word_told_of c r ≡ calls.word_told c ring → answer_of (Some c) r ≡ word c ring
+pub answer_word : (c : Chip) (ring : List ℕ) (r : Result Accepted Refusal) → told.word_told_of c r ≡ calls.word_told c ring → answer_of (Ok c) r ≡ word c ring
 unfolding word
 answer_word c ring r e = case r ∙ ap of_word e
   where
     of_word : WordTold → Answer
-    of_word t = record { chip = Some t.chip; number = calls.word_number t.word; out = calls.word_value t.word }
+    of_word t = record { chip = Ok t.chip; number = calls.word_number t.word; out = calls.word_value t.word }
 
-    case : (x : Result Accepted Refusal) → answer_of (Some c) x ≡ of_word (told.word_told_of c x)
+    case : (x : Result Accepted Refusal) → answer_of (Ok c) x ≡ of_word (told.word_told_of c x)
     case (Ok a) = refl
     case (Err k) = refl
 
@@ -98,7 +98,7 @@ module _ (c : Chip) (d : Carried) (ring s : List ℕ) (a : Address) (byte : ℕ)
         true≢false (sym (ap (λ (t : Reply). eqb t.number 0) (q ∙ if_true (eqb (length l) 2352) _ _ full ∙ if_true (valid a && agrees d.kind d.subheader) _ _ fit)) ∙ nonzero r)
 
     pub disc_run : (s' t ring' : List ℕ) (r : Result Accepted Refusal) → s' ≡ seal_sector l a d.kind d.subheader → t ≡ scratched d.damage s'
-        → lent (told.told_of c r) ring' ≡ sector_lent c ring t → record { answer = answer_of (Some c) r; memory = ring'; sector = t } ≡ disc c d ring s a byte
+        → lent (told.told_of c r) ring' ≡ sector_lent c ring t → record { answer = answer_of (Ok c) r; memory = ring'; sector = t } ≡ disc c d ring s a byte
     unfolding disc arriving
     disc_run s' t ring' r p q k =
         ap (λ (y : Answer). record { answer = y; memory = ring'; sector = t }) (answer_told c r)
@@ -171,7 +171,7 @@ look_short c ring =
     (λ h. omega arith))
 
 -- a ring that the chip refuses
-pub opening_barred : (n : ℕ) (r : Refusal) → told.refused chip.closed (number r) ≡ opened n → ltb 25 n ≡ false → (o : Option Chip) → refused o (number r) ≡ opening o n
+pub opening_barred : (n : ℕ) (r : Refusal) → told.refused chip.closed (number r) ≡ opened n → ltb 25 n ≡ false → (o : Result Chip Chip) → refused o (number r) ≡ opening o n
 unfolding opening opened
 opening_barred n r e h o =
     if_case (λ (t : Told). told.refused chip.closed (number r) ≡ t → refused o (number r) ≡ (if ltb 25 n then refused o 1 else if eqb t.reply.number 0 then of_told t else refused o 1))

@@ -3,7 +3,7 @@
 use Rattle.std.proofs.Common.{◌≡◌, ℕ, zero, suc, ◌+◌, ◌-◌, ◌%◌, ◌≤◌, Bool, true, false, not, ◌&&◌, ◌||◌, eqb, ltb, leb, List, [], ◌∷◌, ◌++◌, length, take, drop, replicate, sym, refl, ap, ◌∙◌, true≢false, arith, take-append-drop, eq-eqb, ne_eqb, eqb-true}
 use lib.ListN.{length-replicate}
 use borrow.Author.Tests.{lt-leb}
-use Rattle.std.specs.Prelude.{if◌then◌else◌, Option, Some, None}
+use Rattle.std.specs.Prelude.{if◌then◌else◌, Option, Some, None, Result, Ok, Err}
 use Rattle.laws.proofs.Bytes.{complement_bits, bytes_replicate}
 use Rattle.laws.proofs.Fill.{take_replicate, drop_replicate}
 use Rattle.laws.proofs.Choice.{if_case, if_true, if_false, right_false}
@@ -26,6 +26,7 @@ use Rattle.ring.specs.Place.{full}
 use Rattle.outcomes.specs.Machine.{sector, number}
 use Rattle.chip.specs.Calls as calls
 use Rattle.chip.specs.Calls.{received_by}
+use Rattle.chip.specs.Chip as chip
 use Rattle.chip.specs.Chip.{opened, ring_fits}
 use Rattle.chip.specs.Sound.{sound}
 use Rattle.chip.specs.Told.{Told, Word, Handed, Refused}
@@ -34,7 +35,7 @@ use Rattle.chip.specs.declared.Chip.{Chip}
 use Rattle.syntax.specs.Grammar.{form, onward, bare, disc as disc_line, several, named, parse}
 use Rattle.syntax.specs.declared.line.Line.{Line}
 use Rattle.syntax.specs.declared.line.Line.TheVariants.{Open, Plain, Look, Take, Disc, Scratch, SetKind, SetSubheader}
-use Rattle.script.specs.Answers.{Answer, Answered, unchanged, answered, refused, of_told, opening, disc_number, brought, disc, said, word, called, closed, size, shown}
+use Rattle.script.specs.Answers.{Answer, Answered, unchanged, answered, refused, of_told, opening, disc_number, brought, disc, said, word, called, closed, is_open, size, shown}
 use Rattle.script.specs.Disc.{known, unsealed, arriving, carried_on, carried_after}
 use Rattle.script.specs.Bench as bench
 use Rattle.script.specs.Bench.{started, reply}
@@ -44,21 +45,15 @@ use Rattle.script.specs.declared.disc.Carried.{Carried}
 
 -- an answer that opens nothing is a refusal
 Refusal : Answer → Type 0
-Refusal a = a.chip ≡ None → (a ≡ refused None a.number) × (eqb a.number 0 ≡ false)
+Refusal a = is_open a.chip ≡ false → (a ≡ refused (Err chip.closed) a.number) × (eqb a.number 0 ≡ false)
 
-some≢none : {A : Type 0} {x : A} → Some x ≡ None → ⊥
-some≢none e = absurd (true≢false (ap is_some e)) where
-  is_some : {A : Type 0} → Option A → Bool
-  is_some (Some x) = true
-  is_some None = false
-
-opening_cases : (n : ℕ) (t u : Bool) → Refusal (if t then refused None 1 else if u then of_told (opened n) else refused None 1)
+opening_cases : (n : ℕ) (t u : Bool) → Refusal (if t then refused (Err chip.closed) 1 else if u then of_told (opened n) else refused (Err chip.closed) 1)
 unfolding Refusal
 opening_cases n true u e = (refl, refl)
-opening_cases n false true e = absurd (some≢none e)
+opening_cases n false true e = absurd (true≢false e)
 opening_cases n false false e = (refl, refl)
 
-closed_refuses : (line : Line) → Refusal (closed line)
+closed_refuses : (line : Line) → Refusal (closed chip.closed line)
 unfolding Refusal closed opening
 closed_refuses (Open n) e = opening_cases n (ltb 25 n) (eqb (opened n).reply.number 0) e
 closed_refuses (Plain call) e = (refl, refl)
@@ -74,7 +69,7 @@ carried_stays : (d : Carried) (line : Option Line) (n : ℕ) → eqb n 0 ≡ fal
 unfolding carried_after
 carried_stays d line n e = if_false (eqb n 0) (carried_on d line) d e
 
-none_refuses : (d : Carried) (m s : List ℕ) (line : Option Line) → Refusal (answered None d m s line).answer
+none_refuses : (d : Carried) (m s : List ℕ) (line : Option Line) → Refusal (answered (Err chip.closed) d m s line).answer
 unfolding Refusal answered
 none_refuses d m s None e = (refl, refl)
 none_refuses d m s (Some line) e = closed_refuses line e
@@ -82,18 +77,18 @@ none_refuses d m s (Some line) e = closed_refuses line e
 pub closed_claim : ClosedClaim
 unfolding Refusal
 closed_claim b m s line k e =
-    let q = ap (λ (o : Option Chip). (answered o b.carried m s (parse line)).answer) k.0 in
+    let q = ap (λ (o : Result Chip Chip). (answered o b.carried m s (parse line)).answer) k.0 in
     let a = (reply b m s line).answer in
-    let f = none_refuses b.carried m s (parse line) (sym (ap (λ (x : Answer). x.chip) q) ∙ e) in
-    let r : a ≡ refused None a.number = q ∙ f.0 ∙ ap (λ (x : Answer). refused None x.number) (sym q) in
+    let f = none_refuses b.carried m s (parse line) (sym (ap (λ (x : Answer). is_open x.chip) q) ∙ e) in
+    let r : a ≡ refused (Err chip.closed) a.number = q ∙ f.0 ∙ ap (λ (x : Answer). refused (Err chip.closed) x.number) (sym q) in
     let d = carried_stays b.carried (parse line) a.number (ap (λ (x : Answer). eqb x.number 0) q ∙ f.1) ∙ k.1 in
-    ((e, d), ap (λ (x : Answer). shown x (bench.count b)) r)
+    ((ap (λ (x : Answer). x.chip) r, d), ap (λ (x : Answer). shown x (bench.count b)) r)
 
 -- the claim's premises are met: a bench that was started is closed, and an empty line does not open it
 pub closed_started : Closed started
 closed_started = (refl, refl)
 
-pub closed_empty : (m s : List ℕ) → (reply started m s []).answer.chip ≡ None
+pub closed_empty : (m s : List ℕ) → is_open (reply started m s []).answer.chip ≡ false
 unfolding answered closed parse named several disc_line bare form onward
 closed_empty m s = refl
 
@@ -125,16 +120,16 @@ module _ (c : Chip) (d : Carried) (ring s : List ℕ) (a : Address) (byte : ℕ)
       ∙ ap (λ (n : ℕ). if not (sound c && ring_fits c ring && eqb n 2352) then 1 else admission c.controller (full c.place)) (size ∙ sym made_size)
 
   by_number : ℕ → Answered
-  by_number n = if eqb n 0 then brought c ring made else unchanged ring s (refused (Some c) n)
+  by_number n = if eqb n 0 then brought c ring made else unchanged ring s (refused (Ok c) n)
 
   as_told : (b : Bool) → eqb (calls.sector_number c ring made) 0 ≡ b
-      → (if b then brought c ring made else unchanged ring s (refused (Some c) (calls.sector_number c ring made))).answer ≡ of_told (calls.sector_told c ring made)
+      → (if b then brought c ring made else unchanged ring s (refused (Ok c) (calls.sector_number c ring made))).answer ≡ of_told (calls.sector_told c ring made)
   unfolding calls.sector_told
   as_told true e = refl
   as_told false e = ap (λ (t : Told). of_told t) (sym (if_false (eqb (calls.sector_number c ring made) 0) _ _ e))
 
   as_stored : (b : Bool) → eqb (calls.sector_number c ring made) 0 ≡ b
-      → (if b then brought c ring made else unchanged ring s (refused (Some c) (calls.sector_number c ring made))).memory ≡ calls.sector_ring c ring made
+      → (if b then brought c ring made else unchanged ring s (refused (Ok c) (calls.sector_number c ring made))).memory ≡ calls.sector_ring c ring made
   unfolding calls.sector_ring
   as_stored true e = refl
   as_stored false e = sym (if_false (eqb (calls.sector_number c ring made) 0) _ _ e)
@@ -180,7 +175,7 @@ Kept m s a = (a.answer.number ≡ 0 → ⊥) → (a.memory ≡ m) × (a.sector �
 disc_kept : (c : Chip) (d : Carried) (ring s : List ℕ) (a : Address) (byte : ℕ) → Kept ring s (disc c d ring s a byte)
 unfolding Kept disc made
 disc_kept c d ring s a byte =
-    if_case (Kept ring s) (eqb (disc_number c d ring s a byte) 0) (brought c ring (arriving d a byte)) (unchanged ring s (refused (Some c) (disc_number c d ring s a byte)))
+    if_case (Kept ring s) (eqb (disc_number c d ring s a byte) 0) (brought c ring (arriving d a byte)) (unchanged ring s (refused (Ok c) (disc_number c d ring s a byte)))
     (λ e k.
     let z = eqb-true _ _ e in
     let h = admitted c d ring s a byte z in
@@ -198,11 +193,11 @@ called_kept c d ring s (Scratch from count) k = (refl, refl)
 called_kept c d ring s (SetKind n) k = (refl, refl)
 called_kept c d ring s (SetSubheader f h m i) k = (refl, refl)
 
-bytes_kept : (o : Option Chip) (d : Carried) (m s : List ℕ) (line : Option Line) → Kept m s (answered o d m s line)
+bytes_kept : (o : Result Chip Chip) (d : Carried) (m s : List ℕ) (line : Option Line) → Kept m s (answered o d m s line)
 unfolding Kept answered
 bytes_kept o d m s None k = (refl, refl)
-bytes_kept None d m s (Some line) k = (refl, refl)
-bytes_kept (Some c) d m s (Some line) k =
+bytes_kept (Err c) d m s (Some line) k = (refl, refl)
+bytes_kept (Ok c) d m s (Some line) k =
     let h = called_kept c d (take (size c) m) s line k in
     (ap (λ (l : List ℕ). l ++ drop (size c) m) h.0 ∙ take-append-drop (size c) m, h.1)
 
@@ -232,11 +227,11 @@ known_is (suc (suc (suc (suc n)))) =
 
 -- a sector line of the other form
 other_form : (c : Chip) (d : Carried) (ring s : List ℕ) (a : Address) (byte : ℕ) → length s ≡ 2352 → agrees d.kind d.subheader ≡ false
-    → disc c d ring s a byte ≡ unchanged ring s (refused (Some c) 3)
+    → disc c d ring s a byte ≡ unchanged ring s (refused (Ok c) 3)
 unfolding disc
 other_form c d ring s a byte full other =
     let three : disc_number c d ring s a byte ≡ 3 = number_other c d ring s a byte full other in
-    if_false (eqb (disc_number c d ring s a byte) 0) _ _ (ap (λ (n : ℕ). eqb n 0) three) ∙ ap (λ (n : ℕ). unchanged ring s (refused (Some c) n)) three
+    if_false (eqb (disc_number c d ring s a byte) 0) _ _ (ap (λ (n : ℕ). eqb n 0) three) ∙ ap (λ (n : ℕ). unchanged ring s (refused (Ok c) n)) three
 
 pub machine_claim : MachineClaim
 unfolding called said word chip_answer chip_step
@@ -248,7 +243,7 @@ machine_claim = record {
   sector_runs = line_runs;
   other_form = other_form;
   scratch_says = λ c d ring s from count. refl;
-  kind_says = λ c d ring s k. ap (λ (b : Bool). unchanged ring s (record { chip = Some c; number = if b then 0 else 3; out = 0 })) (known_is k);
+  kind_says = λ c d ring s k. ap (λ (b : Bool). unchanged ring s (record { chip = Ok c; number = if b then 0 else 3; out = 0 })) (known_is k);
   subheader_says = λ c d ring s f h m i. refl;
 }
 

@@ -1,12 +1,11 @@
 -- What the bench answers to a call (paper 01, "Bench cases"; docs/DECISIONS.md, "Bench"), by the chip's own definitions. Assumes nothing.
-use Rattle.std.specs.Prelude.{ℕ, ◌*◌, Bool, not, List, ◌++◌, length, take, drop, ◌==◌, nat_lt, if◌then◌else◌, Option, Some, None, unwrap_or, Result, Ok, Err}
-use Rattle.reply.specs.Reply.{number}
+use Rattle.std.specs.Prelude.{ℕ, ◌*◌, Bool, true, false, not, List, ◌++◌, length, take, drop, ◌==◌, nat_lt, if◌then◌else◌, Option, Some, None, Result, Ok, Err}
+use Rattle.reply.specs.Reply.{Reply, number}
 use Rattle.reply.specs.declared.Refusal.{Refusal}
 use Rattle.sector.specs.Address.{valid}
 use Rattle.sector.specs.Judge.{why}
 use Rattle.sector.specs.Layout.{agrees}
 use Rattle.sector.specs.declared.Address.{Address}
-use Rattle.chip.specs.Chip as chip
 use Rattle.chip.specs.Chip.{opened}
 use Rattle.chip.specs.Calls as calls
 use Rattle.chip.specs.declared.Chip.{Chip}
@@ -18,31 +17,36 @@ use Rattle.script.specs.Disc.{inside, known, four_bytes, arriving}
 use Rattle.script.specs.declared.disc.Carried.{Carried}
 use Rattle.syntax.specs.declared.print.Shown.{Shown}
 
--- what is answered to a line: the chip that is open after it, if one is, the reply number and the result that is printed
+-- what is answered to a line: the chip that is open after it, or, where none is, the record whose counters are shown; the reply number and the result
+-- that is printed
 pub record Answer : Type 0 where
-  pub chip : Option Chip
+  pub chip : Result Chip Chip
   pub number : ℕ
   pub out : ℕ
 
 -- a refusal: its number, out 0, and the chip there was
-abbrev pub refused : Option Chip → ℕ → Answer
+abbrev pub refused : Result Chip Chip → ℕ → Answer
 refused o number = record { chip = o; number = number; out = 0 }
 
 -- a call that is done
 abbrev pub done : Chip → ℕ → Answer
-done c out = record { chip = Some c; number = 0; out = out }
+done c out = record { chip = Ok c; number = 0; out = out }
 
--- the answer that a call's result stands for, where such a chip was open before it
-abbrev pub answer_of : Option Chip → Result Accepted Refusal → Answer
+-- the answer that a call's result stands for, where this chip was open before it, or none was
+abbrev pub answer_of : Result Chip Chip → Result Accepted Refusal → Answer
 answer_of o (Ok a) = done a.chip a.value
 answer_of o (Err r) = refused o (number r)
 
+-- and of a reply, where this is open after it, or none is
+abbrev pub answer_by : Result Chip Chip → Reply → Answer
+answer_by o r = record { chip = o; number = r.number; out = r.result }
+
 -- the chip's own answer
 abbrev pub of_told : Told → Answer
-of_told t = record { chip = Some t.chip; number = t.reply.number; out = t.reply.result }
+of_told t = record { chip = Ok t.chip; number = t.reply.number; out = t.reply.result }
 
 -- a ring above 25 blocks, or one that the chip refuses, is 1 and keeps the chip there was
-unfoldable pub opening : Option Chip → ℕ → Answer
+unfoldable pub opening : Result Chip Chip → ℕ → Answer
 opening o n =
     if nat_lt 25 n then refused o 1
     else if (opened n).reply.number == 0 then of_told (opened n)
@@ -52,7 +56,7 @@ opening o n =
 unfoldable pub word : Chip → List ℕ → Answer
 word c ring =
     record {
-      chip = Some (calls.word_told c ring).chip;
+      chip = Ok (calls.word_told c ring).chip;
       number = calls.word_number (calls.word_told c ring).word;
       out = calls.word_value (calls.word_told c ring).word;
     }
@@ -89,15 +93,15 @@ brought c ring s = record { answer = of_told (calls.sector_told c ring s); memor
 unfoldable pub disc : Chip → Carried → List ℕ → List ℕ → Address → ℕ → Answered
 disc c d ring s a byte =
     if disc_number c d ring s a byte == 0 then brought c ring (arriving d a byte)
-    else unchanged ring s (refused (Some c) (disc_number c d ring s a byte))
+    else unchanged ring s (refused (Ok c) (disc_number c d ring s a byte))
 
 -- a line that says something of the next sectors: 3 where its numbers are out of range
 unfoldable pub said : Chip → Bool → Answer
-said c in_range = record { chip = Some c; number = if in_range then 0 else 3; out = 0 }
+said c in_range = record { chip = Ok c; number = if in_range then 0 else 3; out = 0 }
 
 -- the calls of an open chip: only an accepted sector changes the ring and the buffer
 unfoldable pub called : Chip → Carried → List ℕ → List ℕ → Line → Answered
-called c d ring s (Open n) = unchanged ring s (opening (Some c) n)
+called c d ring s (Open n) = unchanged ring s (opening (Ok c) n)
 called c d ring s (Plain call) = unchanged ring s (of_told (calls.called c call))
 called c d ring s Look = unchanged ring s (look c ring)
 called c d ring s Take = unchanged ring s (word c ring)
@@ -107,15 +111,15 @@ called c d ring s (SetKind k) = unchanged ring s (said c (known k))
 called c d ring s (SetSubheader f h m i) = unchanged ring s (said c (four_bytes f h m i))
 
 -- before an accepted opening every other call is 5
-unfoldable pub closed : Line → Answer
-closed (Open n) = opening None n
-closed (Plain call) = refused None 5
-closed Look = refused None 5
-closed Take = refused None 5
-closed (Disc a byte) = refused None 5
-closed (Scratch from count) = refused None 5
-closed (SetKind k) = refused None 5
-closed (SetSubheader f h m i) = refused None 5
+unfoldable pub closed : Chip → Line → Answer
+closed c (Open n) = opening (Err c) n
+closed c (Plain call) = refused (Err c) 5
+closed c Look = refused (Err c) 5
+closed c Take = refused (Err c) 5
+closed c (Disc a byte) = refused (Err c) 5
+closed c (Scratch from count) = refused (Err c) 5
+closed c (SetKind k) = refused (Err c) 5
+closed c (SetSubheader f h m i) = refused (Err c) 5
 
 -- the ring of the open chip is the start of the lent memory, as long as its N blocks
 abbrev pub size : Chip → ℕ
@@ -126,14 +130,20 @@ abbrev pub with_rest : Answered → List ℕ → Answered
 with_rest a rest = record { answer = a.answer; memory = a.memory ++ rest; sector = a.sector }
 
 -- a line that the grammar has not is 2; one that it has, with no chip open, and with one
-unfoldable pub answered : Option Chip → Carried → List ℕ → List ℕ → Option Line → Answered
+unfoldable pub answered : Result Chip Chip → Carried → List ℕ → List ℕ → Option Line → Answered
 answered o d m s None = unchanged m s (refused o 2)
-answered None d m s (Some line) = unchanged m s (closed line)
-answered (Some c) d m s (Some line) = with_rest (called c d (take (size c) m) s line) (drop (size c) m)
+answered (Err c) d m s (Some line) = unchanged m s (closed c line)
+answered (Ok c) d m s (Some line) = with_rest (called c d (take (size c) m) s line) (drop (size c) m)
 
--- the chip whose counters are printed: where none is open, a record of no blocks
-abbrev pub the_chip : Option Chip → Chip
-the_chip o = unwrap_or o chip.closed
+-- whether a chip is open
+abbrev pub is_open : Result Chip Chip → Bool
+is_open (Ok c) = true
+is_open (Err c) = false
+
+-- the chip whose counters are printed
+abbrev pub the_chip : Result Chip Chip → Chip
+the_chip (Ok c) = c
+the_chip (Err c) = c
 
 -- what the printed line shows: the answer, and after the call the counters, what failed of the last stored sector, and the interrupt
 abbrev pub shown : Answer → ℕ → Shown

@@ -1,5 +1,6 @@
 -- The bench: what a line does and prints (paper 01, "Bench cases"; docs/DECISIONS.md, "Bench"). Assumes nothing.
-use Rattle.std.specs.Prelude.{ℕ, ◌+◌, ◌%◌, ◌^◌, List, length, nat_lt, if◌then◌else◌, None}
+use Rattle.std.specs.Prelude.{ℕ, ◌+◌, ◌%◌, ◌^◌, List, length, nat_lt, if◌then◌else◌, Err}
+use Rattle.chip.specs.Chip.{closed}
 use Rattle.syntax.specs.Grammar.{parse}
 use Rattle.script.specs.Answers.{Answer, Answered, answered, shown}
 use Rattle.syntax.specs.Print.{printed, room, over}
@@ -8,9 +9,9 @@ use Rattle.script.specs.declared.disc.Carried.{Carried}
 use Rattle.script.specs.declared.Bench.{Bench}
 use Rattle.script.specs.declared.Ran.{Ran}
 
--- before any line: no chip is open, and sectors carry what they do at first
+-- before any line: no chip is open, a record of no blocks is shown, and sectors carry what they do at first
 abbrev pub started : Bench
-started = record { chip = None; carried = at_first; lines = 0 }
+started = record { chip = Err closed; carried = at_first; lines = 0 }
 
 -- what a call of the bench leaves: its result, the memory, the sector buffer, and the buffer that is printed into
 pub record Left (A : Type 0) : Type 0 where

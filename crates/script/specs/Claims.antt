@@ -1,6 +1,6 @@
 -- What holds before an accepted opening (paper 01, "Bench cases": 5 and nothing else); that a refusal changes no byte; that an open bench runs the
 -- machine of demand 3; and the disc's side of it (paper 02, asks 1 and 4). Assumes nothing.
-use Rattle.std.specs.Prelude.{◌≡◌, ℕ, ◌+◌, ◌-◌, ◌<◌, ◌≤◌, Bool, true, false, ◌&&◌, ◌||◌, leb, List, [], ◌∷◌, length, replicate, Option, None, Some, ◌==◌, ◌≢◌, bit_xor, nat_le, nat_lt, slice_index, if◌then◌else◌}
+use Rattle.std.specs.Prelude.{◌≡◌, ℕ, ◌+◌, ◌-◌, ◌<◌, ◌≤◌, Bool, true, false, ◌&&◌, ◌||◌, leb, List, [], ◌∷◌, length, replicate, Option, None, Some, Ok, Err, ◌==◌, ◌≢◌, bit_xor, nat_le, nat_lt, slice_index, if◌then◌else◌}
 use Rattle.laws.specs.Bytes.{Bytes, inverted}
 use Rattle.calls.specs.declared.Call.{Call as LentNothing}
 use Rattle.sector.specs.Address.{valid}
@@ -11,21 +11,22 @@ use Rattle.sector.specs.Sector.{user}
 use Rattle.sector.specs.declared.Address.{Address}
 use Rattle.sector.specs.declared.Subheader.{Subheader}
 use Rattle.outcomes.specs.Machine.{Call, plain, sector, look, word, Answer, replied, handed, refused, seen, number}
+use Rattle.chip.specs.Chip.{closed}
 use Rattle.chip.specs.Machine.{over, chip_answer, chip_step}
 use Rattle.chip.specs.declared.Chip.{Chip}
 use Rattle.syntax.specs.declared.line.Line.{Line}
 use Rattle.syntax.specs.declared.line.Line.TheVariants.{Open, Plain, Look, Take, Disc, Scratch, SetKind, SetSubheader}
 use Rattle.syntax.specs.declared.print.Shown.{Shown}
-use Rattle.script.specs.Answers.{unchanged, called, shown}
+use Rattle.script.specs.Answers.{unchanged, called, is_open, shown}
 use Rattle.script.specs.Bench.{reply, carried_left, count, after}
 use Rattle.script.specs.Disc.{undamaged, at_first, scratched, unsealed, arriving, carried_after}
 use Rattle.script.specs.declared.Bench.{Bench}
 use Rattle.script.specs.declared.disc.Damage.{Damage}
 use Rattle.script.specs.declared.disc.Carried.{Carried}
 
--- no chip is open, and sectors carry what they do at first
+-- no chip is open, a record of no blocks is shown, and sectors carry what they do at first
 abbrev pub Closed : Bench → Type 0
-Closed b = (b.chip ≡ None) × (b.carried ≡ at_first)
+Closed b = (b.chip ≡ Err closed) × (b.carried ≡ at_first)
 
 -- a line with a number and zeros
 abbrev pub zeros : ℕ → ℕ → Shown
@@ -34,7 +35,7 @@ zeros n number = record { lines = n; number = number; out = 0; tcc = 0; bufc = 0
 -- a line that does not open a chip leaves the bench closed, and shows zeros behind its number
 abbrev pub ClosedClaim : Type 0
 ClosedClaim =
-    (b : Bench) (m s line : List ℕ) → Closed b → (reply b m s line).answer.chip ≡ None
+    (b : Bench) (m s line : List ℕ) → Closed b → is_open (reply b m s line).answer.chip ≡ false
     → Closed (after (reply b m s line).answer (carried_left b line (reply b m s line).answer.number) (count b))
     × (shown (reply b m s line).answer (count b) ≡ zeros (count b) (reply b m s line).answer.number)
 
@@ -55,13 +56,13 @@ out_of (seen bytes) = length bytes
 pub record Runs (c : Chip) (d : Carried) (ring s : List ℕ) (line : Line) (call : Call) : Type 0 where
   pub number_is : (called c d ring s line).answer.number ≡ number (chip_answer call (over c ring))
   pub out_is : (called c d ring s line).answer.out ≡ out_of (chip_answer call (over c ring))
-  pub chip_is : (called c d ring s line).answer.chip ≡ Some (chip_step call (over c ring)).chip
+  pub chip_is : (called c d ring s line).answer.chip ≡ Ok (chip_step call (over c ring)).chip
   pub ring_is : (called c d ring s line).memory ≡ (chip_step call (over c ring)).ring
 
 -- a line that says something of the next sectors is none of the machine's: it is answered 0 or 3, and leaves chip, ring and buffer as they are
 abbrev pub Says : Chip → Carried → List ℕ → List ℕ → Line → Bool → Type 0
 Says c d ring s line in_range =
-    called c d ring s line ≡ unchanged ring s (record { chip = Some c; number = if in_range then 0 else 3; out = 0 })
+    called c d ring s line ≡ unchanged ring s (record { chip = Ok c; number = if in_range then 0 else 3; out = 0 })
 
 pub record MachineClaim : Type 0 where
   pub plain_runs : (c : Chip) (d : Carried) (ring s : List ℕ) (call : LentNothing) → Runs c d ring s (Plain call) (plain call)
@@ -73,7 +74,7 @@ pub record MachineClaim : Type 0 where
       → Runs c d ring s (Disc a byte) (sector (arriving d a byte))
   -- one of the other form is answered 3, whatever the chip would say of a sector
   pub other_form : (c : Chip) (d : Carried) (ring s : List ℕ) (a : Address) (byte : ℕ) → length s ≡ 2352 → agrees d.kind d.subheader ≡ false
-      → called c d ring s (Disc a byte) ≡ unchanged ring s (record { chip = Some c; number = 3; out = 0 })
+      → called c d ring s (Disc a byte) ≡ unchanged ring s (record { chip = Ok c; number = 3; out = 0 })
   pub scratch_says : (c : Chip) (d : Carried) (ring s : List ℕ) (from count : ℕ) → Says c d ring s (Scratch from count) (nat_le (from + count) 2352)
   pub kind_says : (c : Chip) (d : Carried) (ring s : List ℕ) (k : ℕ) → Says c d ring s (SetKind k) (k == 1 || (k == 2 || k == 3))
   pub subheader_says : (c : Chip) (d : Carried) (ring s : List ℕ) (f h m i : ℕ)

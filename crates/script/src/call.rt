@@ -1,12 +1,11 @@
 // What the bench answers to a line: the chip's answer, with the host word and the length of the look as numbers.
-ghost use Rattle.std.specs.Prelude.{◌≡◌, Option, Some, None, Ok, IfOk};
+ghost use Rattle.std.specs.Prelude.{◌≡◌, Result, Ok, Err, IfOk};
 ghost use Rattle.reply.specs.Reply.{number_of, reply_of};
-ghost use Rattle.script.specs.Answers.{answer_of, opening, look, disc_number, disc, said, called, closed, answered, shown};
+ghost use Rattle.script.specs.Answers.{answer_of, answer_by, opening, look, disc_number, disc, said, called, closed, answered, shown};
 
 use crate::Bench;
 use crate::disc::{Carried, Damage, four_bytes, known};
 use chip::{Accepted, Chip};
-use controller::Controller;
 use reply::{Refusal, parts, refuse_if};
 use ring::BLOCK;
 use sector::{Address, LENGTH, agrees};
@@ -16,7 +15,7 @@ use syntax::print::Shown;
 // A ring above 25 blocks is refused as one that the chip refuses.
 #[tactic(auto, unfolding(crate::specs::Answers::opening), using(crate::proofs::Answering::opening_barred))]
 fn open(n: u16) -> Result<Accepted, Refusal>
-    ensures { (before : Option Chip) → answer_of before result ≡ opening before n }
+    ensures { (before : Result Chip Chip) → answer_of before result ≡ opening before n }
 {
     refuse_if(n > 25, Refusal::Unfit)?;
     let chip = Chip::open(n)?;
@@ -26,7 +25,7 @@ fn open(n: u16) -> Result<Accepted, Refusal>
 // Before an accepted opening every other call is refused as one whose switches are not set.
 #[tactic(auto, unfolding(crate::specs::Answers::closed))]
 fn closed(line: Line) -> Result<Accepted, Refusal>
-    ensures { answer_of None result ≡ closed line }
+    ensures { (shown : Chip) → answer_of (Err shown) result ≡ closed shown line }
 {
     match line {
         Line::Open(n) => open(n),
@@ -45,7 +44,7 @@ impl Drive {
     // The length in bytes of the part that a look shows.
     #[tactic(auto, using(crate::proofs::Answering::look_short))]
     fn look(self, ring: &[u8]) -> Accepted
-        ensures { answer_of (Some self.chip) (Ok result) ≡ look self.chip ring.now }
+        ensures { answer_of (Ok self.chip) (Ok result) ≡ look self.chip ring.now }
     {
         let part = self.chip.look(ring);
         Accepted {
@@ -57,7 +56,7 @@ impl Drive {
     // A line that says something of the next sectors.
     #[tactic(auto, unfolding(crate::specs::Answers::said))]
     fn said(self, in_range: bool) -> Result<Accepted, Refusal>
-        ensures { answer_of (Some self.chip) result ≡ said self.chip in_range }
+        ensures { answer_of (Ok self.chip) result ≡ said self.chip in_range }
     {
         refuse_if(!in_range, Refusal::OutOfRange)?;
         Ok(Accepted {
@@ -99,7 +98,7 @@ impl Drive {
         address: Address,
         fill: u16,
     ) -> Result<Accepted, Refusal>
-        ensures { record { answer = answer_of (Some self.chip) result; memory = ring.new; sector = sector.new }
+        ensures { record { answer = answer_of (Ok self.chip) result; memory = ring.new; sector = sector.new }
             ≡ disc self.chip self.carried ring.old sector.old address fill }
     {
         let Drive { chip, carried } = self;
@@ -116,7 +115,7 @@ impl Drive {
     // The calls of an open chip.
     #[tactic(auto, unfolding(crate::specs::Answers::called, crate::specs::Answers::word), using(crate::proofs::Answering::answer_told, crate::proofs::Answering::answer_word))]
     fn called(self, ring: &mut [u8], sector: &mut [u8], line: Line) -> Result<Accepted, Refusal>
-        ensures { record { answer = answer_of (Some self.chip) result; memory = ring.new; sector = sector.new }
+        ensures { record { answer = answer_of (Ok self.chip) result; memory = ring.new; sector = sector.new }
             ≡ called self.chip self.carried ring.old sector.old line }
     {
         match line {
@@ -137,17 +136,17 @@ impl Bench {
     // The ring of the open chip is the start of the lent memory, as long as its N blocks; the chip itself refuses one that is shorter.
     #[tactic(auto, unfolding(crate::specs::Answers::answered))]
     pub(crate) fn outcome(
-        self,
+        &self,
         memory: &mut [u8],
         sector: &mut [u8],
         line: Option<Line>,
     ) -> Result<Accepted, Refusal>
-        ensures { record { answer = answer_of self.chip result; memory = memory.new; sector = sector.new }
-            ≡ answered self.chip self.carried memory.old sector.old line }
+        ensures { record { answer = answer_of self.now.chip result; memory = memory.new; sector = sector.new }
+            ≡ answered self.now.chip self.now.carried memory.old sector.old line }
     {
-        let Bench { chip, carried, .. } = self;
+        let Bench { chip, carried, .. } = *self;
         let line = line.ok_or(Refusal::Unlisted)?;
-        let Some(chip) = chip else {
+        let Ok(chip) = chip else {
             return closed(line);
         };
         let size = (usize::from(chip.place.n) * BLOCK).min(memory.len());
@@ -155,25 +154,21 @@ impl Bench {
     }
 
     // What the printed line shows after a call: its reply, and of the open chip the counters, what failed of the last stored sector, and the interrupt.
-    // Where none is open the counters are those of a closed one.
-    pub(crate) fn shown(self, reply: Result<u16, Refusal>) -> Shown
-        ensures { result ≡ shown (record { chip = self.chip; number = (reply_of reply).number; out = (reply_of reply).result }) self.lines }
+    // Where none is open the counters are those of the record that is kept.
+    pub(crate) fn shown(&self, reply: Result<u16, Refusal>) -> Shown
+        ensures { result ≡ shown (answer_by self.now.chip (reply_of reply)) self.now.lines }
     {
         let (number, value) = parts(reply);
-        let Controller {
-            counts,
-            judgement,
-            hirq,
-            ..
-        } = self.chip.unwrap_or(Chip::closed()).controller;
+        let (Ok(chip) | Err(chip)) = &self.chip;
+        let controller = &chip.controller;
         Shown {
             lines: self.lines,
             number,
             out: u64::from(value),
-            tcc: counts.tcc,
-            bufc: counts.bufc,
-            why: judgement.why(),
-            irq: hirq,
+            tcc: controller.counts.tcc,
+            bufc: controller.counts.bufc,
+            why: controller.judgement.why(),
+            irq: controller.hirq,
         }
     }
 }

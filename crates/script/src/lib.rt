@@ -7,8 +7,9 @@ mod disc;
 mod lines;
 
 ghost use Rattle.std.specs.Prelude.{◌≡◌, ◌≤◌};
-ghost use Rattle.script.specs.Answers.{answer_of};
-ghost use Rattle.script.specs.Bench.{started, ran, after, count};
+ghost use Rattle.reply.specs.Reply.{reply_of};
+ghost use Rattle.script.specs.Answers.{answer_by, answered};
+ghost use Rattle.script.specs.Bench.{started, ran};
 ghost use Rattle.script.specs.Disc.{carried_after};
 ghost use Rattle.syntax.specs.Print.{longest};
 
@@ -19,10 +20,10 @@ use reply::Refusal;
 use syntax::line::Line;
 pub use syntax::print::ROOM;
 
-// The chip that is open, if one is, what sectors carry, and how many lines there have been.
+// The chip that is open, or, where none is, the record whose counters are shown; what sectors carry, and how many lines there have been.
 #[derive(Clone, Copy, Debug, PartialEq, Eq)]
 pub struct Bench {
-    pub chip: Option<Chip>,
+    pub chip: Result<Chip, Chip>,
     pub carried: Carried,
     pub lines: u64,
 }
@@ -41,34 +42,40 @@ impl Bench {
         ensures { result ≡ started }
     {
         Bench {
-            chip: None,
+            chip: Err(Chip::closed()),
             carried: Carried::at_first(),
             lines: 0,
         }
     }
 
-    // After a line. A refused one changes nothing but the number of lines.
+    // Answers a line, where the bench lies. A refused one changes nothing of it. It stays a call of its own, so that a bench which a line leaves as it was is not
+    // taken apart into its fields.
     #[tactic(auto, unfolding(crate::specs::Disc::carried_after))]
-    fn after(self, line: Option<Line>, outcome: Result<Accepted, Refusal>) -> Bench
-        ensures { let answer = answer_of self.chip outcome in
-            result ≡ after answer (carried_after self.carried line answer.number) (count self) }
+    #[inline(never)]
+    fn answer(
+        &mut self,
+        memory: &mut [u8],
+        sector: &mut [u8],
+        line: Option<Line>,
+    ) -> Result<u16, Refusal>
+        ensures answer { record { answer = answer_by self.new.chip (reply_of result); memory = memory.new; sector = sector.new }
+            ≡ answered self.old.chip self.old.carried memory.old sector.old line }
+        ensures carried { self.new.carried ≡ carried_after self.old.carried line (reply_of result).number }
+        ensures lines { self.new.lines ≡ self.old.lines }
     {
-        let lines = self.lines.wrapping_add(1);
-        match outcome {
-            Ok(Accepted { chip, .. }) => Bench {
-                chip: Some(chip),
-                carried: line.map_or(self.carried, |line| self.carried.by_line(line)),
-                lines,
-            },
-            Err(_) => Bench { lines, ..self },
+        let Accepted { chip, value } = self.outcome(memory, sector, line)?;
+        if let Some(line) = line {
+            self.carried = self.carried.by_line(line);
         }
+        self.chip = Ok(chip);
+        Ok(value)
     }
 
     // Runs one line, given without its end, and puts the line to print at the start of `out`; with less room than `ROOM` nothing is done.
     // The ring is the start of the memory; the sector is a buffer of 2,352 bytes, in which a sector line seals.
     // Ruled out: one that gives the chip a call before an accepted opening, and one that prints the counters as they were before the call.
     #[tactic(auto, unfolding(crate::specs::Bench::ran), using(crate::proofs::Running::runs))]
-    pub fn run(self, memory: &mut [u8], sector: &mut [u8], line: &[u8], out: &mut [u8]) -> Ran
+    pub fn run(mut self, memory: &mut [u8], sector: &mut [u8], line: &[u8], out: &mut [u8]) -> Ran
         ensures told { record { result = result; memory = memory.new; sector = sector.new; out = out.new }
             ≡ ran self memory.old sector.old line.now out.old }
         ensures within { result.size ≤ longest }
@@ -80,10 +87,9 @@ impl Bench {
             };
         }
         let line = syntax::line::parse(line);
-        let outcome = self.outcome(memory, sector, line);
-        let bench = self.after(line, outcome);
-        let reply = outcome.map(|accepted| accepted.value);
-        let size = syntax::print::print(out, bench.shown(reply));
-        Ran { bench, size }
+        let reply = self.answer(memory, sector, line);
+        self.lines = self.lines.wrapping_add(1);
+        let size = syntax::print::print(out, self.shown(reply));
+        Ran { bench: self, size }
     }
 }

@@ -7,6 +7,7 @@ use crate::frame::SYNC;
 use crate::header::is_bcd_of;
 use crate::layout::Kind;
 use crate::{Address, Judgement, LENGTH};
+use slices::equal;
 
 #[tactic(auto, unfolding(crate::specs::Judge::sync_holds))]
 fn sync_holds(sector: &[u8; LENGTH]) -> bool
@@ -19,7 +20,7 @@ fn sync_holds(sector: &[u8; LENGTH]) -> bool
 fn mode_holds(sector: &[u8; LENGTH]) -> bool
     ensures { result ≡ mode_holds sector.now }
 {
-    sector[15] == 1 || (sector[15] == 2 && sector[16..20] == sector[20..24])
+    sector[15] == 1 || (sector[15] == 2 && equal(&sector[16..20], &sector[20..24]))
 }
 
 fn code_right(sector: &[u8; LENGTH], kind: Kind) -> bool
@@ -27,7 +28,7 @@ fn code_right(sector: &[u8; LENGTH], kind: Kind) -> bool
 {
     let layout = kind.layout();
     let edc = edc::edc(&sector[layout.covered..layout.code]);
-    sector[layout.code..layout.code + 4] == edc.to_le_bytes()[..]
+    equal(&sector[layout.code..layout.code + 4], &edc.to_le_bytes())
 }
 
 #[tactic(auto, unfolding(crate::specs::Judge::unwritten))]

@@ -22,13 +22,19 @@ pub enum Line {
     SetSubheader(u16, u16, u16, u16),
 }
 
-// The call that a form names. The numbers of a form with one of them stand in `d`, of one with two in `c` and `d`, and so on.
+// The call that a form names. The numbers of a form with one of them stand in `d`, of one with two in `c` and `d`, and so on. The forms with none come first: the
+// compiler compares the first ones where they stand, and the lengths of the others by calls.
 #[tactic(auto, using(laws::proofs::Same::not_same), unfolding(crate::specs::Grammar::named, crate::specs::Grammar::several, crate::specs::Grammar::disc, crate::specs::Grammar::bare))]
 fn named(form: &str, n: Numbers) -> Option<Line>
     ensures { result ≡ named form.now n }
 {
     let Numbers { a, b, c, d, .. } = n;
     let line = match form {
+        "call=reset" => Line::Plain(Call::Reset),
+        "call=look" => Line::Look,
+        "call=word" => Line::Take,
+        "call=status" => Line::Plain(Call::Status),
+        "call=srst" => Line::Plain(Call::Srst),
         "call=open ring=0" => Line::Open(d),
         "call=read reg=0" => Line::Plain(Call::Read(d)),
         "call=block number=0" => Line::Plain(Call::SetBlock(d)),
@@ -53,11 +59,6 @@ fn named(form: &str, n: Numbers) -> Option<Line>
         "call=scratch from=0 count=0" => Line::Scratch(c, d),
         "call=kind number=0" => Line::SetKind(d),
         "call=subheader file=0 channel=0 submode=0 coding=0" => Line::SetSubheader(a, b, c, d),
-        "call=reset" => Line::Plain(Call::Reset),
-        "call=look" => Line::Look,
-        "call=word" => Line::Take,
-        "call=status" => Line::Plain(Call::Status),
-        "call=srst" => Line::Plain(Call::Srst),
         _ => return None,
     };
     Some(line)

@@ -1,4 +1,4 @@
-// What the calls refuse: a length other than 2,352 is unfit; an address, an unknown kind or a form bit that is not the kind's is out of range;
+// What the calls refuse: a length other than 2,352 by reply 1; an address out of range, an unknown kind or a form bit that is not the kind's by reply 3;
 // and no byte changed.
 ghost use Rattle.std.specs.Prelude.{◌≤◌};
 
@@ -29,11 +29,16 @@ fn stays(sector: &[u8]) -> bool {
     sector.iter().all(|byte| *byte == BYTE)
 }
 
-// Sealing and judging at `address` are refused so, and the buffer stays.
-fn refused_by(sector: &mut [u8], address: Address, refusal: Refusal) -> bool {
+// Whether a call answers this number. The numbers are paper 01's, and nothing of them is to be taken from the library.
+fn is_refused<T: Copy>(answer: Result<T, Refusal>, number: u8) -> bool {
+    answer.is_err_and(|refusal| refusal.number() == number)
+}
+
+// Sealing and judging at `address` answer `number`, and the buffer stays.
+fn refused_by(sector: &mut [u8], address: Address, number: u8) -> bool {
     let sealed = sector::seal(sector, address, 1, with_submode(0));
     let judged = sector::judge(sector, address);
-    sealed == Err(refusal) && judged == Err(refusal) && stays(sector)
+    is_refused(sealed, number) && is_refused(judged, number) && stays(sector)
 }
 
 // Every call refuses this length, and before the address.
@@ -47,10 +52,10 @@ fn wrong_length(length: usize) -> bool
         second: 0,
         frame: 0,
     };
-    sector::open(sector) == Err(Refusal::Unfit)
-        && sector::check_parity(sector) == Err(Refusal::Unfit)
-        && refused_by(sector, START, Refusal::Unfit)
-        && refused_by(sector, bad, Refusal::Unfit)
+    is_refused(sector::open(sector), 1)
+        && is_refused(sector::check_parity(sector), 1)
+        && refused_by(sector, START, 1)
+        && refused_by(sector, bad, 1)
 }
 
 fn lengths(t: &mut Tally) {
@@ -65,7 +70,7 @@ fn bad_address(minute: u16, second: u16, frame: u16) -> bool {
         second,
         frame,
     };
-    refused_by(&mut [BYTE; LENGTH], address, Refusal::OutOfRange)
+    refused_by(&mut [BYTE; LENGTH], address, 3)
 }
 
 fn addresses(t: &mut Tally) {
@@ -80,7 +85,7 @@ fn bad_kind(kind: u16, submode: u8) -> bool {
     let mut sector = [BYTE; LENGTH];
     let sealed = sector::seal(&mut sector, START, kind, header);
     let short = sector::seal(&mut [0; LENGTH - 1], START, kind, header);
-    sealed == Err(Refusal::OutOfRange) && short == Err(Refusal::Unfit) && stays(&sector)
+    is_refused(sealed, 3) && is_refused(short, 1) && stays(&sector)
 }
 
 fn kinds(t: &mut Tally) {

@@ -14,4 +14,4 @@ returns c =
     let s = c.args.sector.now in
     let four : l.code + 4 - l.code ≡ 4 = omega arith in
     let code = c.to_le_bytes.ensures ∙ ap (λ (e : ℕ). low4 e) (c.edc-edc.ensures ∙ ap (λ (x : List ℕ). edc 0 x) (covered_part l s c.layout-layout.ensures.fits)) in
-    rw (← c.layout-layout.ensures.value) (c.eq.ensures ∙ ap₂ (λ (n : ℕ) (x : List ℕ). same (take n (drop l.code s)) x) four code)
+    rw (← c.layout-layout.ensures.value) (c.equal.ensures ∙ ap₂ (λ (n : ℕ) (x : List ℕ). same (take n (drop l.code s)) x) four code)
